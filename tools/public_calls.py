@@ -13,7 +13,7 @@ BETWEEN = """
     Block::state Ranges::last Ranges::run Ranges::shift_run Ranges::assignments Ranges::weekends Ranges::blocks
     State::last_number State::run State::shift_run State::assignments State::weekends Workspace::offers
     Workspace::clear_offers Workspace::push_offers Workspace::search_offers LastSearches::knows LastSearches::most_gain
-    LastSearches::remember RowSpace Worths Seen count_rows follow_cover raise_missed pay_places take_row put_row price_of
+    LastSearches::remember RowSpace count_rows follow_cover raise_missed pay_places take_row put_row price_of
     lacks_nurses offer_days rows_are_had Base::of improve_worths refuse
 """
 # Comments, strings and characters, whose braces count for nothing.

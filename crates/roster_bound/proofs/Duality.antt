@@ -24,7 +24,8 @@ use Rattle.roster_laws.proofs.Fives.{five_is}
 use Rattle.roster_laws.proofs.SameRows.{same_choice_self}
 use Rattle.roster_laws.proofs.Keeps.{keeps_hard-parts}
 use Rattle.roster_laws.proofs.OneRow.{penalty-parts, requests_of_row}
-use Rattle.roster_bound.specs.Worths.{AreWorths, IsLowerBound, PlaceWorths, bound_by, can_work, earned, most_worth, own_rows, place_floor, places_floor, price_by, rounded_up, row_cost_by, row_floor, with_floors}
+use Rattle.roster_places.specs.Places.{AreWorths, PlaceWorths, earned, most_worth, place_floor, places_floor}
+use Rattle.roster_bound.specs.Worths.{IsLowerBound, bound_by, can_work, own_rows, price_by, rounded_up, row_cost_by, row_floor, with_floors}
 use Rattle.roster_bound.proofs.LeastCosts.{least_below, place_least}
 use Rattle.roster_bound.proofs.Sums.{count_by_place, over_places, places_both, places_le, places_none, sum_le, sum_of_one, sum_same_number}
 

@@ -8,4 +8,3 @@ pub mod PartLaws
 pub mod Counted
 pub mod SameBounds
 pub mod FloorLogs
-pub mod SeenLemmas

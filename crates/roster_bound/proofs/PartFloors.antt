@@ -17,7 +17,8 @@ use Rattle.roster_offers.specs.Offers.{row_cost_at}
 use Rattle.roster_bound.specs.declared.decisions.Decision.{Decision}
 use Rattle.roster_bound.specs.Days.{ArePricedOffers}
 use Rattle.roster_bound.specs.Parts.{IsLowerBoundIn, against_price, bound_in, is_against, is_as_decided, is_in_part, price_in, row_floor_in}
-use Rattle.roster_bound.specs.Worths.{AreWorths, HasRow, HaveRows, PlaceWorths, bound_by, cheapest_row, own_rows, price_by, row_cost_by}
+use Rattle.roster_places.specs.Places.{AreWorths, PlaceWorths}
+use Rattle.roster_bound.specs.Worths.{HasRow, HaveRows, bound_by, cheapest_row, own_rows, price_by, row_cost_by}
 use Rattle.roster_bound.proofs.Duality.{among, below}
 use Rattle.roster_bound.proofs.LeastCosts.{least_below}
 use Rattle.roster_bound.proofs.PricedRows.{can_search_priced, cost_is, row_is, some_priced}

@@ -17,7 +17,8 @@ use Rattle.roster_laws.proofs.Frozen.{stays_self}
 use Rattle.roster_offers.specs.declared.offer.Offer.{Offer}
 use Rattle.roster_offers.specs.Lists.{AreOffers, IsFound, best_over, most_price, offers_on}
 use Rattle.roster_bound.specs.Days.{AreWorthOffers}
-use Rattle.roster_bound.specs.Worths.{HasRow, HaveRows, PlaceWorths, can_work, floor_row, own_rows, price_by, row_floor}
+use Rattle.roster_places.specs.Places.{PlaceWorths}
+use Rattle.roster_bound.specs.Worths.{HasRow, HaveRows, can_work, floor_row, own_rows, price_by, row_floor}
 use Rattle.roster_bound.proofs.Duality.{worked}
 use Rattle.roster_bound.proofs.PricedRows.{can_search_priced, cost_is, row_is, some_priced}
 

@@ -9,7 +9,8 @@ use Rattle.roster_rules.specs.HardRules.{may_take}
 use Rattle.roster_offers.specs.declared.offer.Offer.{Offer}
 use Rattle.roster_offers.specs.Offers.{cheapest_by_shift, offers_by}
 use Rattle.roster_offers.specs.Lists.{offers_on}
-use Rattle.roster_bound.specs.Worths.{PlaceWorths, price_by}
+use Rattle.roster_places.specs.Places.{PlaceWorths}
+use Rattle.roster_bound.specs.Worths.{price_by}
 
 -- the nurse has the skill, and on a frozen day it is the given choice
 abbrev pub can_do : Meaning → ℕ → Rows → (n d : ℕ) → Choice → Bool

@@ -2,7 +2,7 @@
 use Rattle.std.specs.Prelude.{◌≡◌, ℕ, ◌+◌, ◌-◌, ◌*◌, ◌/◌, ◌%◌, ◌<◌, ◌==◌, ◌&&◌, if◌then◌else◌, max, min, nat_lt, slice_index_or}
 use Rattle.roster_instance.specs.Meaning.{Meaning, day_count, minimum, optimum}
 use Rattle.roster_rules.specs.Weights.{staffing_weight}
-use Rattle.roster_bound.specs.Tables.{most_fine, parts}
+use Rattle.roster_places.specs.Tables.{most_fine, parts}
 use Rattle.roster_bound.specs.declared.workspace.FloorWorkspace.{FloorWorkspace}
 
 -- how many nurses a place wants at its worth, in parts of a point: the optimum as long as that is no more than a missing nurse costs,

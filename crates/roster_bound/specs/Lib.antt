@@ -1,9 +1,7 @@
 pub mod Worths
-pub mod Tables
 pub mod Days
 pub mod Parts
 pub mod Parting
 pub mod Floors
-pub mod Seen
 pub mod Workspaces
 pub mod Fading

@@ -9,7 +9,8 @@ use Rattle.roster_rules.specs.HardRules.{keeps_hard}
 use Rattle.roster_rules.specs.Penalties.{penalty}
 use Rattle.roster_laws.specs.FrozenDays.{FrozenDaysStay}
 use Rattle.roster_bound.specs.declared.decisions.Decision.{Decision}
-use Rattle.roster_bound.specs.Worths.{PlaceWorths, cheapest_cost, price_by, rounded_up, with_floors}
+use Rattle.roster_places.specs.Places.{PlaceWorths}
+use Rattle.roster_bound.specs.Worths.{cheapest_cost, price_by, rounded_up, with_floors}
 
 -- a choice on the decision's day is as decided: the one that it names, or another than that
 abbrev pub is_as_decided : Decision → Choice → Bool

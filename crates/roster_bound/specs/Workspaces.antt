@@ -2,7 +2,7 @@
 use Rattle.std.specs.Prelude.{◌≡◌, ◌*◌, length, true}
 use Rattle.roster_instance.specs.Meaning.{Meaning, day_count}
 use Rattle.roster_offers.specs.Workspaces.{fits_space}
-use Rattle.roster_bound.specs.Seen.{FitsSeen}
+use Rattle.roster_places.specs.Seen.{FitsSeen}
 use Rattle.roster_bound.specs.declared.workspace.FloorWorkspace.{FloorWorkspace}
 use Rattle.roster_bound.specs.declared.workspace.RowSpace.{RowSpace}
 

@@ -1,19 +1,18 @@
 -- A floor under the penalty of every roster. A place is a day, a shift and a skill. It pays its worth to each nurse that works there:
 -- what the places pay is what the nurses earn, so that pay changes no penalty. But then each place and each nurse has a least cost of
 -- its own, and no roster costs less than all of these together (our own, by weak duality).
-use Rattle.std.specs.Prelude.{◌≡◌, ℕ, ◌+◌, ◌-◌, ◌*◌, ◌/◌, ◌%◌, ◌<◌, ◌≤◌, ◌==◌, min, max, Bool, true, ◌&&◌, ◌||◌, nat_lt, if◌then◌else◌, List, filter, Option}
+use Rattle.std.specs.Prelude.{◌≡◌, ℕ, ◌+◌, ◌-◌, ◌*◌, ◌/◌, ◌%◌, ◌<◌, ◌≤◌, ◌==◌, Bool, true, ◌&&◌, if◌then◌else◌, List, filter, Option}
 use Rattle.std.specs.Option.{option_map_or}
 use Rattle.roster_instance.specs.declared.choice.Choice.{Choice}
-use Rattle.roster_instance.specs.declared.choice.Choice.TheVariants.{Off, Work}
 use Rattle.roster_instance.specs.Choices.{all_choices, all_rows, days_of, shift_of}
 use Rattle.roster_instance.specs.Counting.{sum_below}
-use Rattle.roster_instance.specs.Limits.{most_small}
-use Rattle.roster_instance.specs.Meaning.{Meaning, day_count, minimum, nurse_count, optimum, shift_count, skill_count}
+use Rattle.roster_instance.specs.Meaning.{Meaning, day_count, nurse_count}
 use Rattle.roster_instance.specs.Rosters.{Row, Rows, fits_case, is_row_of}
 use Rattle.roster_rules.specs.AllowedRows.{first_least, keeps_frozen_days}
 use Rattle.roster_rules.specs.HardRules.{keeps_absences, keeps_hard, keeps_skills, keeps_successions}
 use Rattle.roster_rules.specs.Penalties.{penalty, request_cost_on}
 use Rattle.roster_rules.specs.Weights.{staffing_weight}
+use Rattle.roster_places.specs.Places.{PlaceWorths, earned, even_worths, most_worth, places_floor}
 use Rattle.roster_laws.specs.FrozenDays.{FrozenDaysStay}
 use Rattle.roster_offers.specs.Offers.{row_cost_at}
 
@@ -24,41 +23,6 @@ IsLowerBound c from given bound = (r : Rows) → fits_case c r ≡ true → keep
 -- it is a floor under itself: none of these costs less than this roster
 abbrev pub IsLeast : Meaning → ℕ → Rows → Rows → Type 0
 IsLeast c from given r = IsLowerBound c from given (penalty c r)
-
--- ---- worths: the points that each place, by day, shift and skill, pays to a nurse
-
-abbrev pub PlaceWorths : Type 0
-PlaceWorths = (day shift skill : ℕ) → ℕ
-
-abbrev pub most_worth : ℕ
-most_worth = 200000
-
--- no place pays more than that
-abbrev pub AreWorths : PlaceWorths → Type 0
-AreWorths w = (d s k : ℕ) → w d s k ≤ most_worth
-
--- what a nurse earns on a day
-abbrev pub earned : PlaceWorths → ℕ → Choice → ℕ
-earned w d Off = 0
-earned w d (Work s k) = w d s.0 k.0
-
--- ---- the least that a place costs
-
--- what a place costs with so many nurses: those that are missing, and the pay
-abbrev pub place_cost : Meaning → PlaceWorths → (d s k : ℕ) → ℕ → ℕ
-place_cost c w d s k nurses = staffing_weight * (optimum c d s k - nurses) + w d s k * nurses
-
--- that is at most, by the limits of a case: 199,829,970
-abbrev pub most_place : ℕ
-most_place = (staffing_weight + most_worth) * most_small
-
--- with the minimum or more it is least at the minimum, or at the optimum where that is more
-abbrev pub place_floor : Meaning → PlaceWorths → (d s k : ℕ) → ℕ
-place_floor c w d s k = min (place_cost c w d s k (minimum c d s k)) (place_cost c w d s k (max (minimum c d s k) (optimum c d s k)))
-
--- of all places together
-abbrev pub places_floor : Meaning → PlaceWorths → ℕ
-places_floor c w = sum_below (day_count c) (λ d. sum_below (shift_count c) (λ s. sum_below (skill_count c) (place_floor c w d s)))
 
 -- ---- the least that a nurse's row costs at prices
 
@@ -119,14 +83,6 @@ bound_by c from given w = rounded_up c (floors_together c from given w)
 
 -- ---- the worths of the first round
 
--- a place asks for nurses: its minimum or its optimum is above 0
-abbrev pub asks_for_nurses : Meaning → (d s k : ℕ) → Bool
-asks_for_nurses c d s k = nat_lt 0 (minimum c d s k) || nat_lt 0 (optimum c d s k)
-
--- each such place has the same worth, and the others have none
-abbrev pub even_worths : Meaning → ℕ → PlaceWorths
-even_worths c worth d s k = if asks_for_nurses c d s k then worth else 0
-
 -- as much as a missing nurse costs
 abbrev pub first_worths : Meaning → PlaceWorths
 first_worths c = even_worths c staffing_weight
@@ -134,7 +90,3 @@ first_worths c = even_worths c staffing_weight
 -- the bound of the first round
 abbrev pub first_bound : Meaning → ℕ → Rows → ℕ
 first_bound c from given = bound_by c from given (first_worths c)
-
--- two worths agree at each place of the case
-abbrev pub SameWorths : Meaning → PlaceWorths → PlaceWorths → Type 0
-SameWorths c w v = (d s k : ℕ) → d < day_count c → s < shift_count c → k < skill_count c → w d s k ≡ v d s k

@@ -4,18 +4,17 @@ ghost use Rattle.std.specs.Prelude.{◌<◌, ◌≤◌, IfSome};
 ghost use Rattle.roster_instance.specs.Limits.{most_nurses};
 ghost use Rattle.roster_instance.specs.Meaning.{nurse_count};
 ghost use Rattle.roster_bound.specs.Parting.{AreTwoOf};
-ghost use Rattle.roster_bound.specs.Seen.{FitsSeen};
+ghost use Rattle.roster_places.specs.Seen.{FitsSeen};
 ghost use Rattle.roster_bound.specs.Workspaces.{FitsFloor};
 
 use crate::decisions::Decision;
-use crate::known::{move_by_known_rows, place_at};
+use crate::known::move_by_known_rows;
 use crate::parts::{Part, Two};
-use crate::seen::{KEPT, NOWHERE, Seen};
 use crate::workspace::FloorWorkspace;
-use crate::worths::PARTS;
 use arrayvec::ArrayVec;
 use roster_instance::{Case, Choice, Shift, Skill};
 use roster_offers::RowTables;
+use roster_places::{KEPT, NOWHERE, PARTS, Seen};
 
 /// A decision, and how many uses a nurse's rows have with it or without it, whichever is less.
 #[derive(Clone, Copy, Default)]
@@ -147,7 +146,7 @@ fn even_share(case: &Case, seen: &Seen, uses: &[u32], nurse: usize, day: u16) ->
         if uses_of(uses, at) == 0 {
             continue;
         }
-        let here = place_at(case, at, day, seen);
+        let here = seen.place_at(case, at, day);
         let with = uses_with(case, seen, uses, nurse, Spot { day, place: here });
         let less = with.min(all.saturating_sub(with));
         if less > even {
@@ -176,7 +175,7 @@ fn uses_with(case: &Case, seen: &Seen, uses: &[u32], nurse: usize, on: Spot) -> 
     let mut with: u32 = 0;
     for at in first..first + KEPT {
         let used = uses_of(uses, at);
-        if used > 0 && place_at(case, at, on.day, seen) == on.place {
+        if used > 0 && seen.place_at(case, at, on.day) == on.place {
             with = with.saturating_add(used);
         }
     }

@@ -1,19 +1,18 @@
 //! What places pay in a fade: their worths, which turn into the true prices step by step.
 
-ghost use Rattle.std.specs.Prelude.{◌≡◌, ◌≢◌, ℕ, ◌*◌, ◌/◌, ◌%◌, ◌<◌, ◌≤◌, IfSome, length, min, slice_index_or, true};
+ghost use Rattle.std.specs.Prelude.{◌≡◌, ◌*◌, ◌/◌, ◌<◌, ◌≤◌, IfSome, length, min, true};
 ghost use Rattle.roster_instance.specs.Meaning.{day_count, minimum, nurse_count, optimum};
 ghost use Rattle.roster_instance.specs.Rosters.{is_choice_of};
 ghost use Rattle.roster_bound.specs.Fading.{HaveFollowed, followed_by};
-ghost use Rattle.roster_bound.specs.Tables.{most_fine, worths_of};
+ghost use Rattle.roster_places.specs.Tables.{most_fine, worths_of};
 ghost use Rattle.roster_bound.specs.Workspaces.{FitsFloor};
 ghost use Rattle.roster_bound.specs.Worths.{price_by};
 
-use crate::moves::count_row;
 use crate::offers::{Terms, earned};
 use crate::workspace::FloorWorkspace;
-use crate::worths::{MOST_FINE, MOST_WORTH, PARTS, Worths};
 use roster_instance::{Case, Choice, Need, Roster, Shift, Skill};
 use roster_offers::{RowTables, request_cost};
+use roster_places::{MOST_FINE, MOST_WORTH, PARTS, Worths, count_row, need_at};
 use roster_rules::weights::STAFFING;
 
 /// How far a fade has come: how much of what a place pays is its worth, in 1024ths, and how many points a place pays besides as long
@@ -168,17 +167,6 @@ fn place_of(case: &Case, row: &[Choice], day: usize) -> Option<usize>
     }
 }
 
-/// Minimum and optimum of a place.
-pub(crate) fn need_at(case: &Case, place: usize) -> Need
-    requires { place < 64 * day_count case.now }
-    ensures minimum { result.minimum ≡ minimum case.now (place / 64) (place % 64 / 8) (place % 8) }
-    ensures optimum { result.optimum ≡ optimum case.now (place / 64) (place % 64 / 8) (place % 8) }
-{
-    case.keeps_limits();
-    let (day, shift, skill) = (place / 64, place % 64 / 8, place % 8);
-    case.need(day as u16, Shift(shift as u8), Skill(skill as u8))
-}
-
 /// A worth that follows its place: nurses are wanted to the optimum as long as it is no more than a missing one costs, and else to
 /// the minimum.
 fn followed(need: Need, nurses: u16, fine: u32, step: u32) -> u32
@@ -233,26 +221,4 @@ fn faded_pay(need: Need, nurses: u16, fine: u32, fading: Fading) -> u32 {
     let share = fading.share.min(WHOLE) as u64;
     let all = fine as u64 * share + gain * (WHOLE as u64 - share) + WHOLE as u64 / 2;
     (all / WHOLE as u64).min(MOST_FINE as u64) as u32
-}
-
-impl Worths {
-    /// What a place pays, in parts of a point.
-    pub(crate) fn fine_at(&self, place: usize) -> u32
-        requires { place < 64 * self.now.days }
-        ensures fine { result ≡ slice_index_or self.now.fine place 0 }
-        ensures within { result ≤ most_fine }
-    {
-        self.fine[place]
-    }
-
-    /// Lets a place pay so many parts of a point, or the most that a place pays.
-    fn put_fine(&mut self, place: usize, fine: u32)
-        requires { place < 64 * self.old.days }
-        ensures days { self.new.days ≡ self.old.days }
-        ensures fine { slice_index_or self.new.fine place 0 ≡ min fine most_fine }
-        ensures others { (other : ℕ) → other ≢ place → slice_index_or self.new.fine other 0
-            ≡ slice_index_or self.old.fine other 0 }
-    {
-        self.fine[place] = fine.min(MOST_FINE);
-    }
 }

@@ -8,21 +8,19 @@ ghost use Rattle.roster_laws.specs.Greatest.{extension_count, greatest_extension
 ghost use Rattle.roster_offers.specs.Workspaces.{fits_space};
 ghost use Rattle.roster_bound.specs.Days.{ArePricedOffers, AreWorthOffers, shift_priced_offers};
 ghost use Rattle.roster_bound.specs.Parts.{IsLowerBoundIn, bound_in, price_in, row_floor_in};
-ghost use Rattle.roster_bound.specs.Seen.{FitsSeen};
-ghost use Rattle.roster_bound.specs.Tables.{worths_of};
+ghost use Rattle.roster_places.specs.Seen.{FitsSeen};
+ghost use Rattle.roster_places.specs.Tables.{worths_of};
 ghost use Rattle.roster_bound.specs.Workspaces.{FitsRows};
-ghost use Rattle.roster_bound.specs.Worths.{IsLowerBound, bound_by, cheapest_row, most_worth, rounded_up};
+ghost use Rattle.roster_places.specs.Places.{most_worth};
+ghost use Rattle.roster_bound.specs.Worths.{IsLowerBound, bound_by, cheapest_row, rounded_up};
 
 use crate::decisions::Decision;
-use crate::moves::count_row;
 use crate::offers::{DayTerms, Terms};
-use crate::places::places_floor;
-use crate::seen::Seen;
 use crate::workspace::RowSpace;
-use crate::worths::MOST_WORTH;
 use arrayvec::ArrayVec;
 use roster_instance::Case;
 use roster_offers::{MOST_OFFERS, NurseDay, Offer, RowTables, Workspace, offers_by_shift};
+use roster_places::{MOST_WORTH, Seen, count_row, places_floor};
 use roster_rules::is_frozen;
 use roster_state::{Meter, start};
 

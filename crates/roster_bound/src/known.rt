@@ -2,18 +2,15 @@
 
 ghost use Rattle.std.specs.Prelude.{◌≡◌, ◌*◌, ◌<◌, IfSome, length};
 ghost use Rattle.roster_instance.specs.Meaning.{day_count, nurse_count};
-ghost use Rattle.roster_bound.specs.Seen.{FitsSeen};
+ghost use Rattle.roster_places.specs.Seen.{FitsSeen};
 ghost use Rattle.roster_bound.specs.Workspaces.{FitsFloor};
 
 use crate::decisions::Decision;
-use crate::fading::need_at;
-use crate::moves::Step;
-use crate::rounds::{Pace, move_once};
-use crate::seen::{KEPT, NOWHERE, Seen, place_on};
+use crate::rounds::move_once;
 use crate::workspace::FloorWorkspace;
-use crate::worths::{PARTS, Worths};
 use roster_instance::Case;
 use roster_offers::RowTables;
+use roster_places::{KEPT, PARTS, Pace, Seen, Step, Worths, need_at, place_on};
 use roster_rules::weights::STAFFING;
 
 /// How often worths move between two rounds of searches in a part.
@@ -174,7 +171,7 @@ fn keeps_decisions(case: &Case, part: &[Decision], nurse: usize, at: usize, seen
 {
     for decision in part {
         if decision.nurse as usize == nurse {
-            let place = place_at(case, at, decision.day, seen);
+            let place = seen.place_at(case, at, decision.day);
             let does = place == place_on(decision.choice, decision.day as usize);
             if does != decision.does {
                 return false;
@@ -182,20 +179,6 @@ fn keeps_decisions(case: &Case, part: &[Decision], nurse: usize, at: usize, seen
         }
     }
     true
-}
-
-/// The place of a row on a day; that of a day off beyond all days.
-pub(crate) fn place_at(case: &Case, at: usize, day: u16, seen: &Seen) -> u16
-    requires fits { FitsSeen case.now seen.now }
-    requires at { at < length seen.now.marks.items }
-{
-    let first = at * seen.days;
-    let day = day as usize;
-    if day < seen.days {
-        seen.places[first + day]
-    } else {
-        NOWHERE
-    }
 }
 
 /// What all places cost at least by the worths, in parts of a point.

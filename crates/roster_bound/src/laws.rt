@@ -7,7 +7,8 @@ ghost use Rattle.roster_rules.specs.HardRules.{keeps_hard};
 ghost use Rattle.roster_rules.specs.Penalties.{penalty};
 ghost use Rattle.roster_bound.specs.declared.decisions.Decision.{Decision};
 ghost use Rattle.roster_bound.specs.Parts.{IsLowerBoundIn, IsLowerBoundInBoth, is_in_part, other_way};
-ghost use Rattle.roster_bound.specs.Worths.{AreWorths, HaveRows, IsLeast, IsLowerBound, PlaceWorths, bound_by, rounded_up};
+ghost use Rattle.roster_places.specs.Places.{AreWorths, PlaceWorths};
+ghost use Rattle.roster_bound.specs.Worths.{HaveRows, IsLeast, IsLowerBound, bound_by, rounded_up};
 
 use roster_instance::{Case, Roster};
 

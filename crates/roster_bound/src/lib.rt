@@ -1,32 +1,26 @@
 //! A floor under the penalty of every roster of a case that keeps the hard rules.
 //!
-//! Worths, what places and nurses cost at least by them, and the floor that follows are defined in `specs/Worths.antt`, how worths are
-//! held in `specs/Tables.antt`, what a nurse is offered by them in `specs/Days.antt`, and the log of a run in `specs/Floors.antt`.
-//! `no_roster_is_below_the_bound` promises that the floor by any worths is one. `lower_bound` promises to be it, and `raise_floor` that
-//! all that it tells is the bound of a round, and no less than the first round's. `improve_worths` gives worths alone.
+//! The floor by any worths is defined in `specs/Worths.antt`, what a nurse is offered by them in `specs/Days.antt`, and the log of a run
+//! in `specs/Floors.antt`. `no_roster_is_below_the_bound` promises that it is a floor. `lower_bound` promises to be it, and
+//! `raise_floor` that all that it tells is the bound of a round, and no less than the first round's. `improve_worths` gives worths alone.
 //!
-//! How worths move is proved of nothing but their ranges: `moves` by covers, `known` and `climb` by the rows that were `seen`. A floor
-//! over parts of the rosters is defined in `specs/Parts.antt` and `specs/Parting.antt`: `decisions` make a part, `choosing` takes the
-//! next one, and `part_least` (`tree`) promises that the parts still make up all rosters, each with a floor under it (`ArePartsOf`).
+//! How worths move is proved of nothing but their ranges: by covers, and, in `known`, by the rows that were seen. A floor over parts of
+//! the rosters is defined in `specs/Parts.antt` and `specs/Parting.antt`: `decisions` make a part, `choosing` takes the next one, and
+//! `part_least` (`tree`) promises that the parts still make up all rosters, each with a floor under it (`ArePartsOf`).
 #![tactic(auto)]
 
 mod choosing;
-mod climb;
 mod decisions;
 mod effort;
 mod fading;
 mod floors;
 mod known;
 mod laws;
-mod moves;
 mod offers;
 mod parts;
-mod places;
 mod rounds;
-mod seen;
 mod tree;
 mod workspace;
-mod worths;
 
 pub use decisions::Decision;
 pub use effort::{Effort, Reached};
@@ -40,8 +34,6 @@ pub use laws::{
     rows_are_had,
 };
 pub use offers::{Base, Terms};
-pub use rounds::{MOVES, Pace, improve_worths, raise_floor};
-pub use seen::Seen;
+pub use rounds::{MOVES, improve_worths, raise_floor};
 pub use tree::BoundSpace;
 pub use workspace::{FloorWorkspace, RowSpace};
-pub use worths::{MOST_WORTH, PARTS, Worths};

@@ -5,15 +5,16 @@ ghost use Rattle.roster_instance.specs.Meaning.{day_count};
 ghost use Rattle.roster_instance.specs.Rosters.{fits_case, is_choice_of};
 ghost use Rattle.roster_rules.specs.HardRules.{keeps_hard};
 ghost use Rattle.roster_rules.specs.Penalties.{penalty};
-ghost use Rattle.roster_bound.specs.Tables.{worths_of};
-ghost use Rattle.roster_bound.specs.Worths.{HaveRows, earned, most_worth};
+ghost use Rattle.roster_places.specs.Tables.{worths_of};
+ghost use Rattle.roster_places.specs.Places.{earned, most_worth};
+ghost use Rattle.roster_bound.specs.Worths.{HaveRows};
 
 use crate::decisions::{AGAINST, Decision, is_against};
 use crate::laws::rows_are_had;
-use crate::worths::{MOST_WORTH, Worths};
 use roster_case::Held;
 use roster_instance::{Case, Choice, Roster, Shift, Skill, choice_on};
 use roster_offers::{NurseDay, Offer, Offering};
+use roster_places::{MOST_WORTH, Worths};
 
 /// What a nurse's floor is reckoned by: a case, what its places pay, and a roster of which the days before week `from` and the fixed
 /// days stay. Each nurse has a row that agrees with these days.
@@ -74,7 +75,7 @@ impl Offering for DayTerms<'_> {
     ghost use Rattle.std.specs.Prelude.{◌≡◌};
     ghost use Rattle.roster_rules.specs.AllowedRows.{is_frozen, keeps_frozen_day};
     ghost use Rattle.roster_bound.specs.Parts.{price_in};
-    ghost use Rattle.roster_bound.specs.Tables.{worths_of};
+    ghost use Rattle.roster_places.specs.Tables.{worths_of};
 
     ghost Serves = { λ o c n d. (o.terms.now.case.now ≡ c)
         × (o.frozen ≡ is_frozen c o.terms.now.from n d) };

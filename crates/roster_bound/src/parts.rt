@@ -4,9 +4,9 @@ ghost use Rattle.std.specs.Prelude.{◌≡◌, ◌<◌, ◌≤◌, ◌++◌, [],
 ghost use Rattle.roster_bound.specs.Parting.{AreTwoOf, IsWhole};
 
 use crate::decisions::Decision;
-use crate::seen::KEPT;
 use arrayvec::ArrayVec;
 use roster_instance::Case;
+use roster_places::KEPT;
 use std::alloc::{AllocError, Global};
 
 /// How many decisions make a part at most. One of so many isn't parted again.

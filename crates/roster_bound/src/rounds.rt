@@ -7,14 +7,13 @@ ghost use Rattle.roster_rules.specs.Penalties.{penalty};
 ghost use Rattle.roster_laws.specs.Greatest.{extensions_in, greatest_extension_count};
 ghost use Rattle.roster_bound.specs.Floors.{FloorLogStops, HasReached, RaisesFloor, rounds_alone, rounds_of};
 ghost use Rattle.roster_bound.specs.Workspaces.{FitsFloor};
-ghost use Rattle.roster_bound.specs.Tables.{worths_of};
-ghost use Rattle.roster_bound.specs.Worths.{AreWorths, IsLowerBound, bound_by};
+ghost use Rattle.roster_places.specs.Tables.{worths_of};
+ghost use Rattle.roster_places.specs.Places.{AreWorths};
+ghost use Rattle.roster_bound.specs.Worths.{IsLowerBound, bound_by};
 
-use crate::climb::climb;
 use crate::effort::{Effort, Reached};
 use crate::floors::lower_bound;
 use crate::known::count_known_rows;
-use crate::moves::{Step, farthest, learn};
 use crate::offers::{Base, Terms, Under};
 use crate::tree::{BoundSpace, part_least};
 use crate::workspace::FloorWorkspace;
@@ -22,17 +21,10 @@ use roster_case::Held;
 use roster_instance::Case;
 use roster_log::{LogFault, log_round, log_start};
 use roster_offers::RowTables;
+use roster_places::{Pace, Step, climb, farthest, learn};
 use roster_state::Meter;
 use roster_text::Watch;
 use std::io::Write;
-
-/// How the worths of a run move: over so many rounds of searches, and so many times after each but the first. The first of these moves
-/// goes by the rows that were found in the round, each other one by the cheapest rows that are known.
-#[derive(Clone, Copy)]
-pub struct Pace {
-    pub rounds: u16,
-    pub moves: u16,
-}
 
 /// How often worths move between two rounds of searches, where a floor is raised.
 pub const MOVES: u16 = 20;

@@ -1,16 +1,15 @@
 //! The memory of a run that raises a floor.
 
 ghost use Rattle.std.specs.Prelude.{◌≡◌, ◌*◌, IfOk, length};
-ghost use Rattle.roster_bound.specs.Tables.{worths_of};
+ghost use Rattle.roster_places.specs.Tables.{worths_of};
 ghost use Rattle.roster_bound.specs.Workspaces.{FitsFloor, FitsRows};
-ghost use Rattle.roster_bound.specs.Worths.{SameWorths, first_worths};
+ghost use Rattle.roster_places.specs.Places.{SameWorths};
+ghost use Rattle.roster_bound.specs.Worths.{first_worths};
 
-use crate::moves::Covers;
 use crate::rounds::FIRST;
-use crate::seen::Seen;
-use crate::worths::Worths;
 use roster_instance::Case;
 use roster_offers::{BestFault, RowTables, Workspace};
+use roster_places::{Covers, Seen, Worths};
 use std::alloc::Global;
 
 /// What the searches for the nurses' cheapest rows write into: the workspace of a search, and how many of these rows are at each place,

@@ -3,18 +3,18 @@
 ghost use Rattle.std.specs.Prelude.{◌≡◌, ◌+◌, ◌*◌, ◌<◌, true};
 ghost use Rattle.roster_instance.specs.Meaning.{day_count, nurse_count};
 ghost use Rattle.roster_instance.specs.Rosters.{is_choice_of};
-ghost use Rattle.roster_bound.specs.Tables.{worths_of};
+ghost use Rattle.roster_places.specs.Tables.{worths_of};
 ghost use Rattle.roster_bound.specs.Worths.{price_by};
 ghost use Rattle.roster_offers.specs.Workspaces.{fits_space};
 ghost use Rattle.roster_polish.specs.Kicks.{AreKickOffers, FitsKick, from_on, kick_offers, price_from, shift_place};
 
 use arrayvec::ArrayVec;
-use roster_bound::{MOST_WORTH, Worths};
 use roster_case::Held;
 use roster_instance::{Case, Choice};
 use roster_offers::{
     MOST_CHOICES, MOST_OFFERS, Offer, RowTables, Workspace, cheapest_by_shift, request_cost,
 };
+use roster_places::{MOST_WORTH, Worths};
 use roster_row::choices;
 
 /// How a kick prices what is offered, and in which weeks it offers more than the present row.

@@ -20,12 +20,11 @@ use crate::random::Random;
 use crate::run::{Course, rounds_within};
 use crate::searches::Searches;
 use crate::space::PolishSpace;
-use roster_bound::{
-    Base, Fading, MOST_WORTH, MOVES, Pace, WHOLE, improve_worths, lacks_nurses, raise_missed,
-};
+use roster_bound::{Base, Fading, MOVES, WHOLE, improve_worths, lacks_nurses, raise_missed};
 use roster_costs::{first_absent_before, first_hard, first_succession_before};
 use roster_instance::{Case, Choice, Roster, Shift, Skill, choice_on};
 use roster_offers::RowTables;
+use roster_places::{MOST_WORTH, Pace};
 use roster_state::Meter;
 
 /// How many passes the first fade makes. Each later one makes twice as many as that before.

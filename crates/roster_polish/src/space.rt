@@ -4,10 +4,11 @@ ghost use Rattle.std.specs.Prelude.{◌≡◌, ◌<◌, ◌≤◌, ℕ, All, IfO
 ghost use Rattle.roster_instance.specs.Rosters.{fits_case};
 ghost use Rattle.roster_polish.specs.Polished.{FitsPolish};
 
-use roster_bound::{FloorWorkspace, Worths, count_rows};
+use roster_bound::{FloorWorkspace, count_rows};
 use roster_case::Held;
 use roster_instance::{Case, Roster};
 use roster_offers::{BestFault, RowTables};
+use roster_places::Worths;
 use roster_row::LastSearches;
 use std::alloc::Global;
 

@@ -7,7 +7,7 @@ ghost use Rattle.roster_instance.specs.Rosters.{is_row_of};
 ghost use Rattle.roster_laws.specs.Greatest.{extension_count};
 ghost use Rattle.roster_row.specs.Known.{IsKnown};
 ghost use Rattle.roster_bound.specs.Days.{AreWorthOffers};
-ghost use Rattle.roster_bound.specs.Tables.{worths_of};
+ghost use Rattle.roster_places.specs.Tables.{worths_of};
 ghost use Rattle.roster_bound.specs.Worths.{floor_row};
 ghost use Rattle.roster_offers.specs.Workspaces.{fits_space};
 ghost use Rattle.roster_polish.specs.Fades.{is_left_out};

@@ -3,7 +3,7 @@ use Rattle.std.proofs.lemmas.Bool.{cases_eq}
 use Rattle.std.proofs.lemmas.List.{get_or_read}
 use Rattle.roster_instance.specs.Meaning.{minimum, optimum}
 use Rattle.roster_bound.specs.Fading.{followed_by}
-use Rattle.roster_bound.specs.Tables.{most_fine}
+use Rattle.roster_places.specs.Tables.{most_fine}
 use Rattle.roster_bound.proofs.fading.follow_cover.Goals as goal
 
 -- one place more

@@ -1,5 +1,5 @@
 use Rattle.std.proofs.Common.{◌∙◌}
-use Rattle.roster_bound.specs.Tables.{worths_of}
+use Rattle.roster_places.specs.Tables.{worths_of}
 use Rattle.roster_bound.proofs.PartFloors.{bound_whole}
 use Rattle.roster_bound.proofs.floors.lower_bound.Goals as goal
 

@@ -2,9 +2,10 @@ use Rattle.std.proofs.Common.{◌≡◌, ◌∙◌, ◌+◌, ◌-◌, ◌*◌, �
 use Rattle.roster_instance.specs.Counting.{sum_below}
 use Rattle.roster_instance.specs.Meaning.{day_count, nurse_count}
 use Rattle.roster_rules.proofs.CountLemmas.{sum_more}
-use Rattle.roster_bound.specs.Tables.{worths_of}
+use Rattle.roster_places.specs.Tables.{worths_of}
 use Rattle.roster_bound.specs.Parts.{IsLowerBoundIn, bound_in, row_floor_in}
-use Rattle.roster_bound.specs.Worths.{PlaceWorths, most_worth, places_floor, rounded_up}
+use Rattle.roster_places.specs.Places.{PlaceWorths, most_worth, places_floor}
+use Rattle.roster_bound.specs.Worths.{rounded_up}
 use Rattle.roster_bound.proofs.Counted.{counted_more, has_room}
 use Rattle.roster_bound.proofs.PartFloors.{none_below_in}
 use Rattle.roster_bound.proofs.floors.lower_bound_in.Goals as goal

@@ -2,11 +2,11 @@ use Rattle.std.proofs.Common.{◌≡◌, ◌+◌, ◌*◌, ◌≤◌}
 use Rattle.roster_instance.specs.Counting.{sum_below}
 use Rattle.roster_instance.specs.Meaning.{day_count}
 use Rattle.roster_laws.specs.Greatest.{greatest_extension_count}
-use Rattle.roster_bound.specs.Seen.{FitsSeen}
-use Rattle.roster_bound.specs.Tables.{worths_of}
+use Rattle.roster_places.specs.Seen.{FitsSeen}
+use Rattle.roster_places.specs.Tables.{worths_of}
 use Rattle.roster_bound.specs.Workspaces.{FitsRows}
 use Rattle.roster_bound.specs.Parts.{row_floor_in}
-use Rattle.roster_bound.specs.Worths.{places_floor}
+use Rattle.roster_places.specs.Places.{places_floor}
 use Rattle.roster_bound.proofs.floors.lower_bound_in.Given as goal
 
 abbrev pub invariant-loop-nurse : goal.invariant-loop-nurse

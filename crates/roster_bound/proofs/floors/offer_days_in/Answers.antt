@@ -7,7 +7,7 @@ use Rattle.roster_offers.specs.Lists.{offers_on}
 use Rattle.roster_offers.specs.Workspaces.{Space, fits_space}
 use Rattle.roster_bound.specs.Days.{shift_priced_offers}
 use Rattle.roster_bound.specs.Parts.{price_in}
-use Rattle.roster_bound.specs.Tables.{worths_of}
+use Rattle.roster_places.specs.Tables.{worths_of}
 use Rattle.roster_bound.proofs.floors.offer_days_in.Goals as goal
 
 -- one day more

@@ -3,7 +3,7 @@ use Rattle.roster_offers.specs.Lists.{offers_on}
 use Rattle.roster_offers.specs.Workspaces.{fits_space}
 use Rattle.roster_bound.specs.Days.{shift_priced_offers}
 use Rattle.roster_bound.specs.Parts.{price_in}
-use Rattle.roster_bound.specs.Tables.{worths_of}
+use Rattle.roster_places.specs.Tables.{worths_of}
 use Rattle.roster_bound.proofs.floors.offer_days_in.Given as goal
 
 abbrev pub invariant-loop-day : goal.invariant-loop-day

@@ -1,5 +1,5 @@
 use Rattle.std.proofs.Common.{◌∙◌, ◌+◌, ap}
-use Rattle.roster_bound.specs.Tables.{worths_of}
+use Rattle.roster_places.specs.Tables.{worths_of}
 use Rattle.roster_bound.proofs.PartFloors.{can_search_in, floor_in_is, row_in_is, some_in}
 use Rattle.roster_bound.proofs.floors.row_floor_in.Goals as goal
 

@@ -4,8 +4,9 @@ use Rattle.roster_text.specs.Io.{BreaksIn, Sends}
 use Rattle.roster_instance.specs.Meaning.{Meaning}
 use Rattle.roster_instance.specs.Rosters.{Rows}
 use Rattle.roster_laws.proofs.Frozen.{stays_self}
-use Rattle.roster_bound.specs.Tables.{WorthTable, worths_of}
-use Rattle.roster_bound.specs.Worths.{AreWorths, SameWorths, bound_by, first_worths}
+use Rattle.roster_places.specs.Tables.{WorthTable, worths_of}
+use Rattle.roster_places.specs.Places.{AreWorths, SameWorths}
+use Rattle.roster_bound.specs.Worths.{bound_by, first_worths}
 use Rattle.roster_bound.proofs.Counted.{round_counted, round_room, round_within, rounds_within}
 use Rattle.roster_bound.proofs.FloorLogs.{Going-end, Going-met, Going-raised, Going-same, Going-start, Tells, first_text, raised_breaks, start_breaks}
 use Rattle.roster_bound.proofs.SameBounds.{bound_same}

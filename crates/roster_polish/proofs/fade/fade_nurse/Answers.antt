@@ -2,7 +2,7 @@ use Rattle.std.proofs.Common.{◌≡◌, ◌∙◌, subst, sym, true}
 use Rattle.roster_instance.specs.Rosters.{is_row_of}
 use Rattle.roster_rules.specs.AllowedRows.{keeps_frozen_days}
 use Rattle.roster_rules.proofs.RowFits.{fits-with_row}
-use Rattle.roster_bound.specs.Tables.{worths_of}
+use Rattle.roster_places.specs.Tables.{worths_of}
 use Rattle.roster_polish.proofs.FadeRows.{found_fits, found_stays, put_stays, same_length}
 use Rattle.roster_polish.proofs.fade.fade_nurse.Goals as goal
 use Rattle.roster_polish.proofs.fade.fade_nurse.Goals.{then-searched, else-searched}
