@@ -39,44 +39,44 @@ sum_part i (suc m) f below = go (sum_part i m f) (cases_lt i m)
 -- ---- the numbers of a span below a size, one after another
 
 -- they are gone through from a first to an end
-pub record Goes (span : Span) (size from end : ℕ) : Type 0 where
+pub record Goes (span : Span) (size begin end : ℕ) : Type 0 where
   pub end_is : end ≡ min (span.greatest + 1) size
-  pub from_is : from ≡ min span.least end
+  pub begin_is : begin ≡ min span.least end
 
 -- a sum over those below a number
 abbrev pub sum_to : Span → ℕ → (ℕ → ℕ) → ℕ
 sum_to span x f = sum_below (x - span.least) (λ i. f (span.least + i))
 
-module _ {span : Span} {size from end : ℕ} (goes : Goes span size from end) where
-  pub goes_over : {x : ℕ} → InSpan span x → x < size → (from ≤ x) × (x < end)
-  goes_over inside fits = (omega (arith, goes.from_is, inside.low), omega (arith, goes.end_is, inside.high, fits))
+module _ {span : Span} {size begin end : ℕ} (goes : Goes span size begin end) where
+  pub goes_over : {x : ℕ} → InSpan span x → x < size → (begin ≤ x) × (x < end)
+  goes_over inside fits = (omega (arith, goes.begin_is, inside.low), omega (arith, goes.end_is, inside.high, fits))
 
-  pub goes_only : {x : ℕ} → from ≤ x → x < end → InSpan span x
-  goes_only low high = record { low = omega (arith, goes.from_is, low, high); high = omega (arith, goes.end_is, high) }
+  pub goes_only : {x : ℕ} → begin ≤ x → x < end → InSpan span x
+  goes_only low high = record { low = omega (arith, goes.begin_is, low, high); high = omega (arith, goes.end_is, high) }
 
-  pub goes_within : (from ≤ end) × (end ≤ size)
-  goes_within = (omega (arith, goes.from_is), omega (arith, goes.end_is))
+  pub goes_within : (begin ≤ end) × (end ≤ size)
+  goes_within = (omega (arith, goes.begin_is), omega (arith, goes.end_is))
 
-  pub numbers_are : end - from ≡ numbers_in span size
-  numbers_are = omega (arith, goes.end_is, goes.from_is)
+  pub numbers_are : end - begin ≡ numbers_in span size
+  numbers_are = omega (arith, goes.end_is, goes.begin_is)
 
-  pub sum_begun : (f : ℕ → ℕ) → sum_to span from f ≡ 0
-  sum_begun f = let none : from - span.least ≡ 0 = omega (arith, goes.from_is) in ap (λ k. sum_below k (λ i. f (span.least + i))) none
+  pub sum_begun : (f : ℕ → ℕ) → sum_to span begin f ≡ 0
+  sum_begun f = let none : begin - span.least ≡ 0 = omega (arith, goes.begin_is) in ap (λ k. sum_below k (λ i. f (span.least + i))) none
 
   pub sum_ended : (x : ℕ) (f : ℕ → ℕ) → x ≡ end → sum_to span x f ≡ sum_over span size f
   sum_ended x f is = ap (λ k. sum_below (k - span.least) (λ i. f (span.least + i))) (is ∙ goes.end_is)
 
-  module _ (x : ℕ) (f : ℕ → ℕ) (low : from ≤ x) (below : x < end) where
+  module _ (x : ℕ) (f : ℕ → ℕ) (low : begin ≤ x) (below : x < end) where
     pub sum_more : sum_to span (x + 1) f ≡ sum_to span x f + f x
     sum_more =
-        let next : x + 1 - span.least ≡ suc (x - span.least) = omega (arith, low, below, goes.from_is) in
-        let here : span.least + (x - span.least) ≡ x = omega (arith, low, below, goes.from_is) in
+        let next : x + 1 - span.least ≡ suc (x - span.least) = omega (arith, low, below, goes.begin_is) in
+        let here : span.least + (x - span.least) ≡ x = omega (arith, low, below, goes.begin_is) in
         ap (λ k. sum_below k (λ i. f (span.least + i))) next ∙ ap (λ y. sum_to span x f + f y) here
 
     pub over_part : sum_to span x f + f x ≤ sum_over span size f
     over_part =
-        let here : span.least + (x - span.least) ≡ x = omega (arith, low, below, goes.from_is) in
-        omega (arith, sum_part (x - span.least) (numbers_in span size) (λ i. f (span.least + i)) (omega (arith, goes.end_is, goes.from_is, low, below)), ap f here)
+        let here : span.least + (x - span.least) ≡ x = omega (arith, low, below, goes.begin_is) in
+        omega (arith, sum_part (x - span.least) (numbers_in span size) (λ i. f (span.least + i)) (omega (arith, goes.end_is, goes.begin_is, low, below)), ap f here)
 
 -- so many times the offers
 pub room_for_part : (states more all offers initial counted most : ℕ) → counted ≡ initial + states * offers → states + more ≤ all → initial + all * offers ≤ most → counted + more * offers ≤ most

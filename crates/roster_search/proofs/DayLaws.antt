@@ -62,33 +62,33 @@ module _ (c : Meaning) (n : ℕ) (areas : List Area) (few : FewRuns (sizes_of c 
     inside : shift_digit s.last ≡ last → InArea (area_at areas last) s
     inside here = subst (λ (x : Area). InArea x s) (ap (area_at areas) here) stands.inside
 
-    pub before_first_run : {from end : ℕ} → Goes (area_at areas last).run z.run from end → key_of s < group_key last from 0 → key_of s < group_key last 0 0
-    before_first_run {from} goes below = go (cases_lt (shift_digit s.last) last) (cases_lt last (shift_digit s.last))
+    pub before_first_run : {begin end : ℕ} → Goes (area_at areas last).run z.run begin end → key_of s < group_key last begin 0 → key_of s < group_key last 0 0
+    before_first_run {begin} goes below = go (cases_lt (shift_digit s.last) last) (cases_lt last (shift_digit s.last))
       where
         go : (shift_digit s.last < last) ⊎ (last ≤ shift_digit s.last) → (last < shift_digit s.last) ⊎ (shift_digit s.last ≤ last) → key_of s < group_key last 0 0
         go (inl low) q = omega (arith, low, fit.run, fit.shift_run, few.run, few.shift_run)
         go (inr from_last) (inl high) = absurd (omega (arith, high, below, (goes_within goes).0, (goes_within goes).1, few.run))
         go (inr from_last) (inr to_last) = let here : shift_digit s.last ≡ last = omega (arith, from_last, to_last) in absurd (omega (arith, here, below, (goes_over goes (inside here).run fit.run).0))
 
-    pub after_last_run : {from end : ℕ} → Goes (area_at areas last).run z.run from end → (to : ℕ) → to ≡ end → key_of s < group_key (last + 1) 0 0 → key_of s < group_key last to 0
+    pub after_last_run : {begin end : ℕ} → Goes (area_at areas last).run z.run begin end → (to : ℕ) → to ≡ end → key_of s < group_key (last + 1) 0 0 → key_of s < group_key last to 0
     after_last_run goes to is below = go (cases_lt (shift_digit s.last) last)
       where
         go : (shift_digit s.last < last) ⊎ (last ≤ shift_digit s.last) → key_of s < group_key last to 0
         go (inl low) = omega (arith, low, fit.run, fit.shift_run, few.run, few.shift_run)
         go (inr high) = let here : shift_digit s.last ≡ last = omega (arith, high, below) in omega (arith, here, is, (goes_over goes (inside here).run fit.run).1, fit.shift_run, few.shift_run)
 
-    pub before_first_shift_run : (run : ℕ) → run < z.run → {from end : ℕ} → Goes (area_at areas last).shift_run z.shift_run from end → key_of s < group_key last run from → key_of s < group_key last run 0
-    before_first_shift_run run few_runs {from} goes below = go (cases_lt (key_of s) (group_key last run 0))
+    pub before_first_shift_run : (run : ℕ) → run < z.run → {begin end : ℕ} → Goes (area_at areas last).shift_run z.shift_run begin end → key_of s < group_key last run begin → key_of s < group_key last run 0
+    before_first_shift_run run few_runs {begin} goes below = go (cases_lt (key_of s) (group_key last run 0))
       where
         go : (key_of s < group_key last run 0) ⊎ (group_key last run 0 ≤ key_of s) → key_of s < group_key last run 0
         go (inl low) = low
         go (inr high) =
-            let most : from ≤ 1000 = omega (arith, (goes_within goes).0, (goes_within goes).1, few.shift_run) in
+            let most : begin ≤ 1000 = omega (arith, (goes_within goes).0, (goes_within goes).1, few.shift_run) in
             let here : shift_digit s.last ≡ last = omega (arith, high, below, few_runs, most, fit.run, fit.shift_run, few.run, few.shift_run) in
             let run_is : s.run ≡ run = omega (arith, here, high, below, most, fit.shift_run, few.shift_run) in
             absurd (omega (arith, here, run_is, below, (goes_over goes (inside here).shift_run fit.shift_run).0))
 
-    pub after_last_shift_run : (run : ℕ) → run < z.run → {from end : ℕ} → Goes (area_at areas last).shift_run z.shift_run from end → (to : ℕ) → to ≡ end → key_of s < group_key last (run + 1) 0 → key_of s < group_key last run to
+    pub after_last_shift_run : (run : ℕ) → run < z.run → {begin end : ℕ} → Goes (area_at areas last).shift_run z.shift_run begin end → (to : ℕ) → to ≡ end → key_of s < group_key last (run + 1) 0 → key_of s < group_key last run to
     after_last_shift_run run few_runs goes to is below = go (cases_lt (key_of s) (group_key last run 0))
       where
         go : (key_of s < group_key last run 0) ⊎ (group_key last run 0 ≤ key_of s) → key_of s < group_key last run to

@@ -68,10 +68,10 @@ module _ {c : Meaning} {n : ℕ} {areas : List Area} {group s : Summary} (like :
   like_fits = fits-all (sizes_of c n) s like.stands.fits
 
   -- it is in the spans of the area
-  pub like_place : {from end : ℕ} → Goes (area_at areas (shift_digit group.last)).assignments (sizes_of c n).assignments from end → (from ≤ s.assignments) × (s.assignments < end)
+  pub like_place : {begin end : ℕ} → Goes (area_at areas (shift_digit group.last)).assignments (sizes_of c n).assignments begin end → (begin ≤ s.assignments) × (s.assignments < end)
   like_place goes = goes_over goes like_area.assignments like_fits.assignments
 
-  pub like_weekends : {from end : ℕ} → Goes (area_at areas (shift_digit group.last)).weekends (sizes_of c n).weekends from end → (from ≤ s.weekends) × (s.weekends < end)
+  pub like_weekends : {begin end : ℕ} → Goes (area_at areas (shift_digit group.last)).weekends (sizes_of c n).weekends begin end → (begin ≤ s.weekends) × (s.weekends < end)
   like_weekends goes = goes_over goes like_area.weekends like_fits.weekends
 
   -- what tells whether a row may lead to it is the group's
@@ -103,11 +103,11 @@ place_stands day group good may_be w a w_fits a_fits w_in a_in =
 -- ---- the cells of a group by one number of weekends more
 
 module _ (c : Meaning) (n : ℕ) (areas : List Area) (group : Summary) (z : Sizes) (sizes : z ≡ sizes_of c n) (no_weekends : group.weekends ≡ 0) (no_assignments : group.assignments ≡ 0) (right : Summary → ℕ → Type 0) (place : ℕ → ℕ) (old new : List ℕ) where
-  pub cells_of_weekends : (w from end : ℕ) → ((code : ℕ) → code < code_of z group + w * z.assignments → slice_index_or new (place code) 0 ≡ slice_index_or old (place code) 0)
-      → ((a : ℕ) → from ≤ a → a < end → right (with_assignments (with_weekends group w) a) (slice_index_or new (place (code_of z group + w * z.assignments + a)) 0))
-      → ((s : Summary) → StandsLike c n areas group s → (from ≤ s.assignments) × (s.assignments < end))
+  pub cells_of_weekends : (w begin end : ℕ) → ((code : ℕ) → code < code_of z group + w * z.assignments → slice_index_or new (place code) 0 ≡ slice_index_or old (place code) 0)
+      → ((a : ℕ) → begin ≤ a → a < end → right (with_assignments (with_weekends group w) a) (slice_index_or new (place (code_of z group + w * z.assignments + a)) 0))
+      → ((s : Summary) → StandsLike c n areas group s → (begin ≤ s.assignments) × (s.assignments < end))
       → CellsOf (λ s. StandsLike c n areas group s × (s.weekends < w)) (sizes_of c n) right place old → CellsOf (λ s. StandsLike c n areas group s × (s.weekends < w + 1)) (sizes_of c n) right place new
-  cells_of_weekends w from end same here within before s which = go (cases_lt s.weekends w)
+  cells_of_weekends w begin end same here within before s which = go (cases_lt s.weekends w)
     where
       like : StandsLike c n areas group s
       like = which.0

@@ -60,13 +60,13 @@ module _ (day : OpenDay) (stretch : Stretch) (place : ℕ) (inside : place < len
   offer = slice_index_or day.offers.now place no_offer
 
   abbrev width : ℕ
-  width = stretch.end - stretch.from
+  width = stretch.end - stretch.begin
 
   abbrev side : ℕ
   side = day.days.ranges.assignments
 
   abbrev state : ℕ → ℕ → Summary
-  state i b = stretch_state stretch.block stretch.from i b
+  state i b = stretch_state stretch.block stretch.begin i b
 
   abbrev step_on : Summary → Option Shift → Option (Summary × ℕ)
   step_on s x = step_of day.days.search.case.now day.days.search.nurse day.day s x
@@ -121,11 +121,11 @@ module _ (day : OpenDay) (stretch : Stretch) (place : ℕ) (inside : place < len
 -- ---- by one offer more
 
 pub run_refused : (day : OpenDay) (stretch : Stretch) (place : ℕ) → place < length day.offers.now → AreRefusedBy day stretch place → (labels numbers : List ℕ) → RunCells day stretch (take place day.offers.now) labels numbers → RunCells day stretch (take (place + 1) day.offers.now) labels numbers
-run_refused day stretch place inside none labels numbers old i b in_rows in_width = place_kept (best_with day (stretch_state stretch.block stretch.from i b)) day.offers.now place inside no_offer _ _ (old i b in_rows in_width) (none i b no_offer in_rows in_width)
+run_refused day stretch place inside none labels numbers old i b in_rows in_width = place_kept (best_with day (stretch_state stretch.block stretch.begin i b)) day.offers.now place inside no_offer _ _ (old i b in_rows in_width) (none i b no_offer in_rows in_width)
 
 module _ {day : OpenDay} {stretch : Stretch} {place first dearer : ℕ} (by : AreLabelsBy day stretch place first dearer) (inside : place < length day.offers.now) (labels numbers others labels_new numbers_new : List ℕ) (old : RunCells day stretch (take place day.offers.now) labels numbers)
     (count : ℕ) (long : count ≡ places_of day stretch) (shown : (j : ℕ) → j < count → slice_index_or others j 0 ≡ slice_index_or day.later.now (first + j) 0) where
-  module _ (i b : ℕ) (in_rows : i < stretch.rows) (in_width : b < stretch.end - stretch.from) where
+  module _ (i b : ℕ) (in_rows : i < stretch.rows) (in_width : b < stretch.end - stretch.begin) where
     abbrev j_at : ℕ
     j_at = i * day.days.ranges.assignments + b
 
@@ -134,15 +134,15 @@ module _ {day : OpenDay} {stretch : Stretch} {place first dearer : ℕ} (by : Ar
     candidate = dearer + slice_index_or day.later.now (first + j_at) 0
 
     there : j_at < count
-    there = omega (arith, in_stretch stretch.rows (stretch.end - stretch.from) day.days.ranges.assignments i b in_rows in_width, long)
+    there = omega (arith, in_stretch stretch.rows (stretch.end - stretch.begin) day.days.ranges.assignments i b in_rows in_width, long)
 
     other_is : raised others dearer j_at ≡ candidate
     other_is =
         let sum : slice_index_or others j_at 0 + dearer ≡ candidate = omega (arith, shown j_at there) in
         ap (λ k. k % 2 ^ 32) sum ∙ mod-eq_of_lt (omega (arith, by.low i b in_rows in_width, by.few))
 
-    label_is : min candidate no_row ≡ label_of (best_with day (stretch_state stretch.block stretch.from i b) (slice_index_or day.offers.now place by.offer))
-    label_is = by.labels i b in_rows in_width ∙ ap (λ x. label_of (best_with day (stretch_state stretch.block stretch.from i b) x)) (sym by.read)
+    label_is : min candidate no_row ≡ label_of (best_with day (stretch_state stretch.block stretch.begin i b) (slice_index_or day.offers.now place by.offer))
+    label_is = by.labels i b in_rows in_width ∙ ap (λ x. label_of (best_with day (stretch_state stretch.block stretch.begin i b) x)) (sym by.read)
 
   pub stretch_lowered : RowCells (shape_of day stretch) (λ j label. label ≡ min (slice_index_or labels j 0) (raised others dearer j)) labels_new
       → RowCells (shape_of day stretch) (λ j number. number ≡ pointer_by (slice_index_or labels j 0) (raised others dearer j) (slice_index_or numbers j 0) place) numbers_new
@@ -153,8 +153,8 @@ module _ {day : OpenDay} {stretch : Stretch} {place first dearer : ℕ} (by : Ar
       let other = other_is i b in_rows in_width in
       let label = lowered i b in_rows in_width ∙ ap (λ k. min (slice_index_or labels j 0) k) other in
       let number = pointed i b in_rows in_width ∙ ap (λ k. if nat_lt k (slice_index_or labels j 0) then place else slice_index_or numbers j 0) other in
-      transport (λ q. AreOfLeast (best_with day (stretch_state stretch.block stretch.from i b)) (take (place + 1) day.offers.now) (sym label q) (sym number q))
-      (place_lowered (best_with day (stretch_state stretch.block stretch.from i b)) day.offers.now place inside by.offer (slice_index_or labels j 0) (slice_index_or numbers j 0) (old i b in_rows in_width) (candidate i b in_rows in_width) (label_is i b in_rows in_width))
+      transport (λ q. AreOfLeast (best_with day (stretch_state stretch.block stretch.begin i b)) (take (place + 1) day.offers.now) (sym label q) (sym number q))
+      (place_lowered (best_with day (stretch_state stretch.block stretch.begin i b)) day.offers.now place inside by.offer (slice_index_or labels j 0) (slice_index_or numbers j 0) (old i b in_rows in_width) (candidate i b in_rows in_width) (label_is i b in_rows in_width))
 
   pub stretch_set : ((j : ℕ) → j < count → slice_index_or labels j 0 ≡ no_row) → RowCells (shape_of day stretch) (λ j label. label ≡ min (raised others dearer j) no_row) labels_new → RowCells (shape_of day stretch) (λ j number. number ≡ place) numbers_new
       → RunCells day stretch (take (place + 1) day.offers.now) labels_new numbers_new
@@ -162,8 +162,8 @@ module _ {day : OpenDay} {stretch : Stretch} {place first dearer : ℕ} (by : Ar
       let j = j_at i b in_rows in_width in
       let in_count = there i b in_rows in_width in
       let label = set i b in_rows in_width ∙ ap (λ k. min k no_row) (other_is i b in_rows in_width) in
-      transport (λ q. AreOfLeast (best_with day (stretch_state stretch.block stretch.from i b)) (take (place + 1) day.offers.now) (sym label q) (sym (numbered i b in_rows in_width) q))
-      (place_set (best_with day (stretch_state stretch.block stretch.from i b)) day.offers.now place inside by.offer (slice_index_or labels j 0) (slice_index_or numbers j 0) (old i b in_rows in_width) (none j in_count) (candidate i b in_rows in_width) (label_is i b in_rows in_width))
+      transport (λ q. AreOfLeast (best_with day (stretch_state stretch.block stretch.begin i b)) (take (place + 1) day.offers.now) (sym label q) (sym (numbered i b in_rows in_width) q))
+      (place_set (best_with day (stretch_state stretch.block stretch.begin i b)) day.offers.now place inside by.offer (slice_index_or labels j 0) (slice_index_or numbers j 0) (old i b in_rows in_width) (none j in_count) (candidate i b in_rows in_width) (label_is i b in_rows in_width))
 
 -- ---- the numbers stay small
 
@@ -215,16 +215,16 @@ run_place rows width side j some wide (inr touch) below =
     record { row = at.row; place = at.place; in_rows = at.in_rows; inside = omega (arith, at.inside, touch); is = at.is }
 
 -- no place beside the rows is written
-pub run_kept : (rows side from end code : ℕ) → from < end → end ≤ side → IsOneRun rows (end - from) side → (old new : List ℕ) → SameOutside (code + from) (code + from + ((rows - 1) * side + (end - from))) old new
-    → (i a : ℕ) → i < rows → a < side → (a < from) ⊎ (end ≤ a) → slice_index_or new (code + (i * side + a)) 0 ≡ slice_index_or old (code + (i * side + a)) 0
-run_kept rows side from end code some whole (inl one) old new others i a in_rows inside beside =
+pub run_kept : (rows side begin end code : ℕ) → begin < end → end ≤ side → IsOneRun rows (end - begin) side → (old new : List ℕ) → SameOutside (code + begin) (code + begin + ((rows - 1) * side + (end - begin))) old new
+    → (i a : ℕ) → i < rows → a < side → (a < begin) ⊎ (end ≤ a) → slice_index_or new (code + (i * side + a)) 0 ≡ slice_index_or old (code + (i * side + a)) 0
+run_kept rows side begin end code some whole (inl one) old new others i a in_rows inside beside =
     let first : i ≡ 0 = omega (arith, in_rows, one) in
     let none : i * side ≡ 0 = ap (λ k. k * side) first ∙ omega arith in
     elim beside [
       | inl before ↦ others.before (code + (i * side + a)) (omega (arith, none, before))
       | inr after ↦ others.after (code + (i * side + a)) (omega (arith, none, after, some, no_row_more rows side one))
     ]
-run_kept rows side from end code some whole (inr touch) old new others i a in_rows inside beside = absurd (elim beside [ inl before ↦ omega (arith, before, touch, whole, some) | inr after ↦ omega (arith, after, inside, touch, whole, some) ])
+run_kept rows side begin end code some whole (inr touch) old new others i a in_rows inside beside = absurd (elim beside [ inl before ↦ omega (arith, before, touch, whole, some) | inr after ↦ omega (arith, after, inside, touch, whole, some) ])
 
 -- a row and a place of a stretch are within its rows
 pub in_rows-end : (rows side i a : ℕ) → i < rows → a < side → i * side + a < rows * side
@@ -235,16 +235,16 @@ module _ (day : OpenDay) (stretch : Stretch) (block numbers labels pointers : Li
   abbrev code_at : ℕ
   code_at = code_of day.days.ranges stretch.block
 
-  pub stretch_moved : ((i b : ℕ) → i < stretch.rows → b < stretch.end - stretch.from → slice_index_or labels (code_at + stretch.from + (i * day.days.ranges.assignments + b)) 0 ≡ slice_index_or block (i * day.days.ranges.assignments + b) 0)
-      → ((i b : ℕ) → i < stretch.rows → b < stretch.end - stretch.from → slice_index_or pointers (day.first + code_at + stretch.from + (i * day.days.ranges.assignments + b)) 0 ≡ slice_index_or numbers (i * day.days.ranges.assignments + b) 0)
+  pub stretch_moved : ((i b : ℕ) → i < stretch.rows → b < stretch.end - stretch.begin → slice_index_or labels (code_at + stretch.begin + (i * day.days.ranges.assignments + b)) 0 ≡ slice_index_or block (i * day.days.ranges.assignments + b) 0)
+      → ((i b : ℕ) → i < stretch.rows → b < stretch.end - stretch.begin → slice_index_or pointers (day.first + code_at + stretch.begin + (i * day.days.ranges.assignments + b)) 0 ≡ slice_index_or numbers (i * day.days.ranges.assignments + b) 0)
       → RunCells day stretch day.offers.now block numbers → StretchCells day stretch labels pointers
   stretch_moved same_label same_number old i a in_rows low high =
       let side = day.days.ranges.assignments in
-      let b = a - stretch.from in
-      let in_width : b < stretch.end - stretch.from = omega (arith, low, high) in
-      let place : stretch.from + b ≡ a = omega (arith, low) in
-      let at_code : code_at + stretch.from + (i * side + b) ≡ code_at + (i * side + a) = omega (arith, low) in
-      let at_first : day.first + code_at + stretch.from + (i * side + b) ≡ day.first + code_at + (i * side + a) = omega (arith, low) in
+      let b = a - stretch.begin in
+      let in_width : b < stretch.end - stretch.begin = omega (arith, low, high) in
+      let place : stretch.begin + b ≡ a = omega (arith, low) in
+      let at_code : code_at + stretch.begin + (i * side + b) ≡ code_at + (i * side + a) = omega (arith, low) in
+      let at_first : day.first + code_at + stretch.begin + (i * side + b) ≡ day.first + code_at + (i * side + a) = omega (arith, low) in
       let label = sym (same_label i b in_rows in_width) ∙ ap (λ k. slice_index_or labels k 0) at_code in
       let number = sym (same_number i b in_rows in_width) ∙ ap (λ k. slice_index_or pointers k 0) at_first in
       transport (λ q. LeastFrom day (with_weekends stretch.block (stretch.block.weekends + i)) day.offers.now (place q) (label q) (number q)) (old i b in_rows in_width)
@@ -252,7 +252,7 @@ module _ (day : OpenDay) (stretch : Stretch) (block numbers labels pointers : Li
 -- ---- a stretch is within the tables, and within the room for it
 
 module _ {day : OpenDay} {stretch : Stretch} (good : IsStretchOf day stretch) where
-  pub count_within : stretch.from + places_of day stretch ≤ stretch.rows * day.days.ranges.assignments
+  pub count_within : stretch.begin + places_of day stretch ≤ stretch.rows * day.days.ranges.assignments
   count_within = omega (arith, one_row_less stretch.rows day.days.ranges.assignments good.some_rows, good.assignments, good.some_places)
 
   pub count_short : places_of day stretch ≤ most_places
@@ -262,13 +262,13 @@ module _ {day : OpenDay} {stretch : Stretch} (good : IsStretchOf day stretch) wh
   rows_in_table = rows_within day.days.ranges stretch.block good.without stretch.rows good.fits good.some_rows good.weekends
 
   -- as the code reckons it
-  pub count_is : {side : ℕ} → side ≡ day.days.ranges.assignments → (stretch.rows - 1) * side + (stretch.end - stretch.from) ≡ places_of day stretch
-  count_is is = ap (λ k. (stretch.rows - 1) * k + (stretch.end - stretch.from)) is
+  pub count_is : {side : ℕ} → side ≡ day.days.ranges.assignments → (stretch.rows - 1) * side + (stretch.end - stretch.begin) ≡ places_of day stretch
+  count_is is = ap (λ k. (stretch.rows - 1) * k + (stretch.end - stretch.begin)) is
 
-  pub in_room : {side long : ℕ} → side ≡ day.days.ranges.assignments → most_places ≤ long → (stretch.rows - 1) * side + (stretch.end - stretch.from) ≤ long
+  pub in_room : {side long : ℕ} → side ≡ day.days.ranges.assignments → most_places ≤ long → (stretch.rows - 1) * side + (stretch.end - stretch.begin) ≤ long
   in_room is room = omega (arith, count_is is, count_short, room)
 
-  pub in_table : {first side long : ℕ} → first ≡ code_of day.days.ranges stretch.block → side ≡ day.days.ranges.assignments → product day.days.ranges ≤ long → first + stretch.from + ((stretch.rows - 1) * side + (stretch.end - stretch.from)) ≤ long
+  pub in_table : {first side long : ℕ} → first ≡ code_of day.days.ranges stretch.block → side ≡ day.days.ranges.assignments → product day.days.ranges ≤ long → first + stretch.begin + ((stretch.rows - 1) * side + (stretch.end - stretch.begin)) ≤ long
   in_table first is room = omega (arith, first, count_is is, count_within, rows_in_table, room)
 
   -- its rows, in a list that begins with its first place
@@ -276,8 +276,8 @@ module _ {day : OpenDay} {stretch : Stretch} (good : IsStretchOf day stretch) wh
   rows_of is = record { apart = omega (arith, good.assignments); long_is = sym is }
 
   -- a part of its places
-  pub part_of : (from end : ℕ) → stretch.from ≤ from → from < end → end ≤ stretch.end → IsStretchOf day (record stretch { from = from; end = end })
-  part_of from end low some high = record {
+  pub part_of : (begin end : ℕ) → stretch.begin ≤ begin → begin < end → end ≤ stretch.end → IsStretchOf day (record stretch { begin = begin; end = end })
+  part_of begin end low some high = record {
     fits = good.fits;
     without = good.without;
     some_rows = good.some_rows;
@@ -286,8 +286,8 @@ module _ {day : OpenDay} {stretch : Stretch} (good : IsStretchOf day stretch) wh
     assignments = omega (arith, high, good.assignments);
     short = good.short;
     stands = λ i b in_rows in_width.
-        let place : stretch.from + (from - stretch.from + b) ≡ from + b = omega (arith, low) in
-        subst (λ a. StandsOn day (with_assignments (with_weekends stretch.block (stretch.block.weekends + i)) a)) place (good.stands i (from - stretch.from + b) in_rows (omega (arith, in_width, low, high)));
+        let place : stretch.begin + (begin - stretch.begin + b) ≡ begin + b = omega (arith, low) in
+        subst (λ a. StandsOn day (with_assignments (with_weekends stretch.block (stretch.block.weekends + i)) a)) place (good.stands i (begin - stretch.begin + b) in_rows (omega (arith, in_width, low, high)));
   }
 
 -- ---- rows that are put in their places one after another
@@ -295,8 +295,8 @@ module _ {day : OpenDay} {stretch : Stretch} (good : IsStretchOf day stretch) wh
 pub row_in_count : (rows width side row : ℕ) → row < rows → row * side + width ≤ (rows - 1) * side + width
 row_in_count rows width side row in_rows = omega (arith, mul-le row side (rows - 1) side (omega (arith, in_rows)) (omega arith))
 
-pub row_end : (rows side from end row : ℕ) → row < rows → from < end → end ≤ side → from + row * side + (end - from) ≤ rows * side
-row_end rows side from end row in_rows some whole = omega (arith, in_rows-end rows side row (end - 1) in_rows (omega (arith, some, whole)), some)
+pub row_end : (rows side begin end row : ℕ) → row < rows → begin < end → end ≤ side → begin + row * side + (end - begin) ≤ rows * side
+row_end rows side begin end row in_rows some whole = omega (arith, in_rows-end rows side row (end - 1) in_rows (omega (arith, some, whole)), some)
 
 -- what stands between rows stays, once more
 pub between_then : {shape rows : RowShape} → shape ≡ rows → (old cells new : List ℕ) → BetweenRowsKept shape cells new → BetweenRowsKept rows old cells → BetweenRowsKept rows old new
@@ -307,29 +307,29 @@ module _ {day : OpenDay} {stretch : Stretch} (good : IsStretchOf day stretch) {r
   pub row_is : row * side ≡ row * day.days.ranges.assignments
   row_is = ap (λ k. row * k) is
 
-  pub row_in_places : row * side + (stretch.end - stretch.from) ≤ places_of day stretch
-  row_in_places = omega (arith, row_is, row_in_count stretch.rows (stretch.end - stretch.from) day.days.ranges.assignments row in_rows)
+  pub row_in_places : row * side + (stretch.end - stretch.begin) ≤ places_of day stretch
+  row_in_places = omega (arith, row_is, row_in_count stretch.rows (stretch.end - stretch.begin) day.days.ranges.assignments row in_rows)
 
-  pub row_short : {long : ℕ} → most_places ≤ long → row * side + (stretch.end - stretch.from) ≤ long
+  pub row_short : {long : ℕ} → most_places ≤ long → row * side + (stretch.end - stretch.begin) ≤ long
   row_short room = omega (arith, row_in_places, count_short good, room)
 
-  pub row_in_table : {first long : ℕ} → first ≡ code_of day.days.ranges stretch.block → product day.days.ranges ≤ long → first + stretch.from + row * side + (stretch.end - stretch.from) ≤ long
-  row_in_table first room = omega (arith, first, row_is, row_end stretch.rows day.days.ranges.assignments stretch.from stretch.end row in_rows good.some_places good.assignments, rows_in_table good, room)
+  pub row_in_table : {first long : ℕ} → first ≡ code_of day.days.ranges stretch.block → product day.days.ranges ≤ long → first + stretch.begin + row * side + (stretch.end - stretch.begin) ≤ long
+  row_in_table first room = omega (arith, first, row_is, row_end stretch.rows day.days.ranges.assignments stretch.begin stretch.end row in_rows good.some_places good.assignments, rows_in_table good, room)
 
-module _ (side from end code row : ℕ) (old new : List ℕ) (whole : end ≤ side) (others : SameOutside (code + from + row * side) (code + from + row * side + (end - from)) old new) where
-  pub row_kept : (i a : ℕ) → a < side → (a < from) ⊎ (end ≤ a) → from < end → slice_index_or new (code + (i * side + a)) 0 ≡ slice_index_or old (code + (i * side + a)) 0
+module _ (side begin end code row : ℕ) (old new : List ℕ) (whole : end ≤ side) (others : SameOutside (code + begin + row * side) (code + begin + row * side + (end - begin)) old new) where
+  pub row_kept : (i a : ℕ) → a < side → (a < begin) ⊎ (end ≤ a) → begin < end → slice_index_or new (code + (i * side + a)) 0 ≡ slice_index_or old (code + (i * side + a)) 0
   row_kept i a inside beside some = go (cases_lt row i) (cases_lt i row) beside
     where
       same : Type 0
       same = slice_index_or new (code + (i * side + a)) 0 ≡ slice_index_or old (code + (i * side + a)) 0
 
-      go : (row < i) ⊎ (i ≤ row) → (i < row) ⊎ (row ≤ i) → (a < from) ⊎ (end ≤ a) → same
+      go : (row < i) ⊎ (i ≤ row) → (i < row) ⊎ (row ≤ i) → (a < begin) ⊎ (end ≤ a) → same
       go (inl after) _ _ = others.after (code + (i * side + a)) (omega (arith, mul-le (row + 1) side i side (omega (arith, after)) (omega arith), whole, some))
       go (inr from_row) (inl before) _ = others.before (code + (i * side + a)) (omega (arith, mul-le (i + 1) side row side (omega (arith, before)) (omega arith), inside))
       go (inr from_row) (inr to_row) (inl before) = others.before (code + (i * side + a)) (omega (arith, mul-le i side row side from_row (omega arith), before))
       go (inr from_row) (inr to_row) (inr after) = others.after (code + (i * side + a)) (omega (arith, mul-le row side i side to_row (omega arith), after, some))
 
-  pub row_outside : (rows : ℕ) → row < rows → from < end → length new ≡ length old → KeepsRest code (rows * side) old new
+  pub row_outside : (rows : ℕ) → row < rows → begin < end → length new ≡ length old → KeepsRest code (rows * side) old new
   row_outside rows in_rows some same = record {
     others = record {
       before = λ j low. others.before j (omega (arith, low));
@@ -339,36 +339,36 @@ module _ (side from end code row : ℕ) (old new : List ℕ) (whole : end ≤ si
   }
 
 -- a row more of numbers that are put in their places
-module _ (side from end code row : ℕ) (numbers old new : List ℕ) (whole : end ≤ side) (some : from < end) (others : SameOutside (code + from + row * side) (code + from + row * side + (end - from)) old new) (here : (b : ℕ) → b < end - from → slice_index_or new (code + from + (row * side + b)) 0 ≡ slice_index_or numbers (row * side + b) 0) where
-  pub numbers_more : ((i b : ℕ) → i < row → b < end - from → slice_index_or old (code + from + (i * side + b)) 0 ≡ slice_index_or numbers (i * side + b) 0) → (i b : ℕ) → i < row + 1 → b < end - from → slice_index_or new (code + from + (i * side + b)) 0 ≡ slice_index_or numbers (i * side + b) 0
+module _ (side begin end code row : ℕ) (numbers old new : List ℕ) (whole : end ≤ side) (some : begin < end) (others : SameOutside (code + begin + row * side) (code + begin + row * side + (end - begin)) old new) (here : (b : ℕ) → b < end - begin → slice_index_or new (code + begin + (row * side + b)) 0 ≡ slice_index_or numbers (row * side + b) 0) where
+  pub numbers_more : ((i b : ℕ) → i < row → b < end - begin → slice_index_or old (code + begin + (i * side + b)) 0 ≡ slice_index_or numbers (i * side + b) 0) → (i b : ℕ) → i < row + 1 → b < end - begin → slice_index_or new (code + begin + (i * side + b)) 0 ≡ slice_index_or numbers (i * side + b) 0
   numbers_more below i b before inside =
-      below_more (λ i. (b : ℕ) → b < end - from → slice_index_or new (code + from + (i * side + b)) 0 ≡ slice_index_or numbers (i * side + b) 0) row
-      (λ i before b inside. others.before (code + from + (i * side + b)) (omega (arith, mul-le (i + 1) side row side (omega (arith, before)) (omega arith), inside, whole, some)) ∙ below i b before inside) here i before b inside
+      below_more (λ i. (b : ℕ) → b < end - begin → slice_index_or new (code + begin + (i * side + b)) 0 ≡ slice_index_or numbers (i * side + b) 0) row
+      (λ i before b inside. others.before (code + begin + (i * side + b)) (omega (arith, mul-le (i + 1) side row side (omega (arith, before)) (omega arith), inside, whole, some)) ∙ below i b before inside) here i before b inside
 
 -- ---- a list that is written into another one, in which what stands between rows is the old one
 
-module _ (side from end code : ℕ) (whole : end ≤ side) (some : from < end) (block_old block old new : List ℕ) (written : IsWritten (code + from) block old new) (read : (j : ℕ) → j < length block → slice_index_or block_old j 0 ≡ slice_index_or old (code + from + j) 0)
-    (between : (i b : ℕ) → end - from ≤ b → b < side → slice_index_or block (i * side + b) 0 ≡ slice_index_or block_old (i * side + b) 0) where
-  between_kept : (i b : ℕ) → end - from ≤ b → b < side → slice_index_or new (code + from + (i * side + b)) 0 ≡ slice_index_or old (code + from + (i * side + b)) 0
+module _ (side begin end code : ℕ) (whole : end ≤ side) (some : begin < end) (block_old block old new : List ℕ) (written : IsWritten (code + begin) block old new) (read : (j : ℕ) → j < length block → slice_index_or block_old j 0 ≡ slice_index_or old (code + begin + j) 0)
+    (between : (i b : ℕ) → end - begin ≤ b → b < side → slice_index_or block (i * side + b) 0 ≡ slice_index_or block_old (i * side + b) 0) where
+  between_kept : (i b : ℕ) → end - begin ≤ b → b < side → slice_index_or new (code + begin + (i * side + b)) 0 ≡ slice_index_or old (code + begin + (i * side + b)) 0
   between_kept i b wide inside = go (cases_lt (i * side + b) (length block))
     where
-      go : (i * side + b < length block) ⊎ (length block ≤ i * side + b) → slice_index_or new (code + from + (i * side + b)) 0 ≡ slice_index_or old (code + from + (i * side + b)) 0
+      go : (i * side + b < length block) ⊎ (length block ≤ i * side + b) → slice_index_or new (code + begin + (i * side + b)) 0 ≡ slice_index_or old (code + begin + (i * side + b)) 0
       go (inl within) = written.inside (i * side + b) within ∙ between i b wide inside ∙ read (i * side + b) within
-      go (inr past) = written.others.after (code + from + (i * side + b)) (omega (arith, past))
+      go (inr past) = written.others.after (code + begin + (i * side + b)) (omega (arith, past))
 
-  pub list_kept : (i a : ℕ) → a < side → (a < from) ⊎ (end ≤ a) → slice_index_or new (code + (i * side + a)) 0 ≡ slice_index_or old (code + (i * side + a)) 0
+  pub list_kept : (i a : ℕ) → a < side → (a < begin) ⊎ (end ≤ a) → slice_index_or new (code + (i * side + a)) 0 ≡ slice_index_or old (code + (i * side + a)) 0
   list_kept i a inside beside = go beside (cases_lt 0 i)
     where
       same : Type 0
       same = slice_index_or new (code + (i * side + a)) 0 ≡ slice_index_or old (code + (i * side + a)) 0
 
-      at_place : (k : ℕ) → code + from + k ≡ code + (i * side + a) → slice_index_or new (code + from + k) 0 ≡ slice_index_or old (code + from + k) 0 → same
+      at_place : (k : ℕ) → code + begin + k ≡ code + (i * side + a) → slice_index_or new (code + begin + k) 0 ≡ slice_index_or old (code + begin + k) 0 → same
       at_place k is kept = subst (λ m. slice_index_or new m 0 ≡ slice_index_or old m 0) is kept
 
-      go : (a < from) ⊎ (end ≤ a) → (0 < i) ⊎ (i ≤ 0) → same
-      go (inr after) _ = at_place (i * side + (a - from)) (omega (arith, after, some)) (between_kept i (a - from) (omega (arith, after)) (omega (arith, inside)))
+      go : (a < begin) ⊎ (end ≤ a) → (0 < i) ⊎ (i ≤ 0) → same
+      go (inr after) _ = at_place (i * side + (a - begin)) (omega (arith, after, some)) (between_kept i (a - begin) (omega (arith, after)) (omega (arith, inside)))
       go (inl before) (inl later) =
-          at_place ((i - 1) * side + (side + a - from)) (omega (arith, one_row_less i side later, before, whole, some)) (between_kept (i - 1) (side + a - from) (omega (arith, whole, some)) (omega (arith, before, whole, some)))
+          at_place ((i - 1) * side + (side + a - begin)) (omega (arith, one_row_less i side later, before, whole, some)) (between_kept (i - 1) (side + a - begin) (omega (arith, whole, some)) (omega (arith, before, whole, some)))
       go (inl before) (inr first) =
           let none : i * side ≡ 0 = let zero : i ≡ 0 = omega (arith, first) in ap (λ k. k * side) zero ∙ omega arith in
           written.others.before (code + (i * side + a)) (omega (arith, none, before))
@@ -377,7 +377,7 @@ module _ (side from end code : ℕ) (whole : end ≤ side) (some : from < end) (
 
 module _ (day : OpenDay) (stretch : Stretch) (middle end : ℕ) (labels_old pointers_old labels pointers : List ℕ) (old : StretchCells day (record stretch { end = middle }) labels_old pointers_old) where
   abbrev part : Stretch
-  part = record stretch { from = middle; end = end }
+  part = record stretch { begin = middle; end = end }
 
   abbrev part_code : ℕ
   part_code = code_of day.days.ranges stretch.block
@@ -396,20 +396,20 @@ module _ (day : OpenDay) (stretch : Stretch) (middle end : ℕ) (labels_old poin
             transport (λ q. LeastFrom day (with_weekends stretch.block (stretch.block.weekends + i)) day.offers.now a (label q) (number q)) (old i a in_rows low before)
 
 -- what stands beside them stays, too
-pub kept_more : (day : OpenDay) (stretch : Stretch) (middle end first : ℕ) → stretch.from ≤ middle → middle ≤ end → (old cells new : List ℕ)
-    → PlacesKept day (record stretch { end = middle }) first old cells → PlacesKept day (record stretch { from = middle; end = end }) first cells new → PlacesKept day (record stretch { end = end }) first old new
+pub kept_more : (day : OpenDay) (stretch : Stretch) (middle end first : ℕ) → stretch.begin ≤ middle → middle ≤ end → (old cells new : List ℕ)
+    → PlacesKept day (record stretch { end = middle }) first old cells → PlacesKept day (record stretch { begin = middle; end = end }) first cells new → PlacesKept day (record stretch { end = end }) first old new
 kept_more day stretch middle end first low high old cells new same later i a in_rows inside (inl before) = later i a in_rows inside (inl (omega (arith, before, low))) ∙ same i a in_rows inside (inl before)
 kept_more day stretch middle end first low high old cells new same later i a in_rows inside (inr after) = later i a in_rows inside (inr after) ∙ same i a in_rows inside (inr (omega (arith, after, high)))
 
 -- so many for each place and each offer, up to a place and from it on
-pub places_counted : (long rows from middle end : ℕ) → from ≤ middle → middle < end → long * (rows * (middle - from)) + long * (rows * (end - middle)) ≡ long * (rows * (end - from))
-places_counted long rows from middle end low high =
-    let sum : (middle - from) + (end - middle) ≡ end - from = omega (arith, low, high) in
+pub places_counted : (long rows begin middle end : ℕ) → begin ≤ middle → middle < end → long * (rows * (middle - begin)) + long * (rows * (end - middle)) ≡ long * (rows * (end - begin))
+places_counted long rows begin middle end low high =
+    let sum : (middle - begin) + (end - middle) ≡ end - begin = omega (arith, low, high) in
     omega arith ∙ ap (λ k. long * (rows * k)) sum
 
-pub places_room : (long rows from end all counted most : ℕ) → end ≤ all → counted + long * (rows * (all - from)) ≤ most → counted + long * (rows * (end - from)) ≤ most
-places_room long rows from end all counted most few room =
-    omega (arith, room, mul-le long (rows * (end - from)) long (rows * (all - from)) (omega arith) (mul-le rows (end - from) rows (all - from) (omega arith) (omega (arith, few))))
+pub places_room : (long rows begin end all counted most : ℕ) → end ≤ all → counted + long * (rows * (all - begin)) ≤ most → counted + long * (rows * (end - begin)) ≤ most
+places_room long rows begin end all counted most few room =
+    omega (arith, room, mul-le long (rows * (end - begin)) long (rows * (all - begin)) (omega arith) (mul-le rows (end - begin) rows (all - begin) (omega arith) (omega (arith, few))))
 
 -- the same, by rows
 pub rows_counted : (long first w more width : ℕ) → first ≤ w → long * ((w - first) * width) + long * (more * width) ≡ long * ((w + more - first) * width)
@@ -418,29 +418,29 @@ rows_counted long first w more width low =
     omega arith ∙ ap (λ k. long * (k * width)) sum
 
 -- the cells of a group for the worked weekends from one number up to another
-abbrev pub GroupCells : OpenDay → Summary → (from end first to : ℕ) → List ℕ → List ℕ → Type 0
-GroupCells day group from end first to labels pointers =
-    (w a : ℕ) → first ≤ w → w < to → from ≤ a → a < end → LeastFrom day (with_weekends group w) day.offers.now a
+abbrev pub GroupCells : OpenDay → Summary → (begin end first to : ℕ) → List ℕ → List ℕ → Type 0
+GroupCells day group begin end first to labels pointers =
+    (w a : ℕ) → first ≤ w → w < to → begin ≤ a → a < end → LeastFrom day (with_weekends group w) day.offers.now a
     (slice_index_or labels (code_of day.days.ranges group + (w * day.days.ranges.assignments + a)) 0)
     (slice_index_or pointers (day.first + code_of day.days.ranges group + (w * day.days.ranges.assignments + a)) 0)
 
 -- by so many rows more
-module _ (day : OpenDay) (group : Summary) (from end first to more : ℕ) (whole : end ≤ day.days.ranges.assignments) (labels_old pointers_old labels pointers : List ℕ) (old : GroupCells day group from end first to labels_old pointers_old) where
+module _ (day : OpenDay) (group : Summary) (begin end first to more : ℕ) (whole : end ≤ day.days.ranges.assignments) (labels_old pointers_old labels pointers : List ℕ) (old : GroupCells day group begin end first to labels_old pointers_old) where
   abbrev row_size : ℕ
   row_size = day.days.ranges.assignments
 
   abbrev group_at : ℕ
   group_at = code_of day.days.ranges group
 
-  module _ (block : Summary) (is_block : with_weekends group to ≡ block) (code_is_more : code_of day.days.ranges block ≡ group_at + to * row_size) (beside : KeepBeside day (record { block = block; rows = more; from = from; end = end }) labels_old labels pointers_old pointers)
-      (new : StretchCells day (record { block = block; rows = more; from = from; end = end }) labels pointers) where
-    module _ (w a : ℕ) (low : first ≤ w) (from_a : from ≤ a) (to_a : a < end) where
+  module _ (block : Summary) (is_block : with_weekends group to ≡ block) (code_is_more : code_of day.days.ranges block ≡ group_at + to * row_size) (beside : KeepBeside day (record { block = block; rows = more; begin = begin; end = end }) labels_old labels pointers_old pointers)
+      (new : StretchCells day (record { block = block; rows = more; begin = begin; end = end }) labels pointers) where
+    module _ (w a : ℕ) (low : first ≤ w) (begin_a : begin ≤ a) (to_a : a < end) where
       group_before : w < to → LeastFrom day (with_weekends group w) day.offers.now a (slice_index_or labels (group_at + (w * row_size + a)) 0) (slice_index_or pointers (day.first + group_at + (w * row_size + a)) 0)
       group_before before =
           let below = in_rows-end to row_size w a before (omega (arith, to_a, whole)) in
           let label = sym (beside.of_labels.others.before (group_at + (w * row_size + a)) (omega (arith, below, code_is_more))) in
           let number = sym (beside.of_pointers.others.before (day.first + group_at + (w * row_size + a)) (omega (arith, below, code_is_more))) in
-          transport (λ q. LeastFrom day (with_weekends group w) day.offers.now a (label q) (number q)) (old w a low before from_a to_a)
+          transport (λ q. LeastFrom day (with_weekends group w) day.offers.now a (label q) (number q)) (old w a low before begin_a to_a)
 
       group_here : to ≤ w → w < to + more → LeastFrom day (with_weekends group w) day.offers.now a (slice_index_or labels (group_at + (w * row_size + a)) 0) (slice_index_or pointers (day.first + group_at + (w * row_size + a)) 0)
       group_here from_w to_w =
@@ -452,20 +452,20 @@ module _ (day : OpenDay) (group : Summary) (from end first to more : ℕ) (whole
           let row : to * row_size + i * row_size ≡ w * row_size = omega arith ∙ ap (λ k. k * row_size) is in
           let at_code : code_of day.days.ranges block + (i * row_size + a) ≡ group_at + (w * row_size + a) = omega (arith, row, code_is_more) in
           let at_place : day.first + code_of day.days.ranges block + (i * row_size + a) ≡ day.first + group_at + (w * row_size + a) = omega (arith, row, code_is_more) in
-          transport (λ q. LeastFrom day (state q) day.offers.now a (slice_index_or labels (at_code q) 0) (slice_index_or pointers (at_place q) 0)) (new i a (omega (arith, from_w, to_w)) from_a to_a)
+          transport (λ q. LeastFrom day (state q) day.offers.now a (slice_index_or labels (at_code q) 0) (slice_index_or pointers (at_place q) 0)) (new i a (omega (arith, from_w, to_w)) begin_a to_a)
 
       group_now : w < to + more → (w < to) ⊎ (to ≤ w) → LeastFrom day (with_weekends group w) day.offers.now a (slice_index_or labels (group_at + (w * row_size + a)) 0) (slice_index_or pointers (day.first + group_at + (w * row_size + a)) 0)
       group_now to_w (inl before) = group_before before
       group_now to_w (inr from_w) = group_here from_w to_w
 
-    pub group_more : GroupCells day group from end first (to + more) labels pointers
-    group_more w a low to_w from_a to_a = group_now w a low from_a to_a to_w (cases_lt w to)
+    pub group_more : GroupCells day group begin end first (to + more) labels pointers
+    group_more w a low to_w begin_a to_a = group_now w a low begin_a to_a to_w (cases_lt w to)
 
 -- all of them
 pub group_tables : (day : OpenDay) (group : Summary) → group.weekends ≡ 0 → group.assignments ≡ 0
     → {first last : ℕ} → Goes (area_at day.areas.now (shift_digit group.last)).weekends (sizes_of day.days.search.case.now day.days.search.nurse).weekends first last
-    → {from end : ℕ} → Goes (area_at day.areas.now (shift_digit group.last)).assignments (sizes_of day.days.search.case.now day.days.search.nurse).assignments from end
-    → (to : ℕ) → last ≤ to → (labels pointers : List ℕ) → GroupCells day group from end first to labels pointers → AreTables day (StandsBy day group) labels pointers
+    → {begin end : ℕ} → Goes (area_at day.areas.now (shift_digit group.last)).assignments (sizes_of day.days.search.case.now day.days.search.nurse).assignments begin end
+    → (to : ℕ) → last ≤ to → (labels pointers : List ℕ) → GroupCells day group begin end first to labels pointers → AreTables day (StandsBy day group) labels pointers
 group_tables day group no_weekends no_assignments weekends places to at_end labels pointers cells =
     record { labels_are = λ s like. (cell s like).least; pointers_are = λ s like. (cell s like).points }
   where

@@ -112,11 +112,11 @@ pub record IsStretchOf (day : OpenDay) (stretch : Stretch) : Type 0 where
   pub fits : fits_sizes day.days.ranges stretch.block ≡ true
   pub without : stretch.block.assignments ≡ 0
   pub some_rows : 0 < stretch.rows
-  pub some_places : stretch.from < stretch.end
+  pub some_places : stretch.begin < stretch.end
   pub weekends : stretch.block.weekends + stretch.rows ≤ day.days.ranges.weekends
   pub assignments : stretch.end ≤ day.days.ranges.assignments
   pub short : stretch.rows * day.days.ranges.assignments ≤ most_places
-  pub stands : (i b : ℕ) → i < stretch.rows → b < stretch.end - stretch.from → StandsOn day (stretch_state stretch.block stretch.from i b)
+  pub stands : (i b : ℕ) → i < stretch.rows → b < stretch.end - stretch.begin → StandsOn day (stretch_state stretch.block stretch.begin i b)
 
 -- the day takes its rows alike
 abbrev pub RowsAlike : OpenDay → Stretch → Type 0
@@ -125,30 +125,30 @@ RowsAlike day rows =
 
 -- the day takes all of its states alike
 abbrev pub AllAlike : OpenDay → Stretch → Type 0
-AllAlike day stretch = IsAlike day.days.search.case.now day.days.search.nurse day.day stretch.block stretch.rows stretch.from stretch.end
+AllAlike day stretch = IsAlike day.days.search.case.now day.days.search.nurse day.day stretch.block stretch.rows stretch.begin stretch.end
 
 -- its rows, in a list that begins with its first place
 abbrev pub shape_of : OpenDay → Stretch → RowShape
-shape_of day stretch = record { rows = stretch.rows; width = stretch.end - stretch.from; side = day.days.ranges.assignments }
+shape_of day stretch = record { rows = stretch.rows; width = stretch.end - stretch.begin; side = day.days.ranges.assignments }
 
 -- the rules are the nurse's, its rows are told, and what a worked day brings is what it brings to its first state
-pub record IsStretchDay (day : OpenDay) (from : StretchDay) : Type 0 where
-  pub rules : from.rules ≡ contract_of day.days.search.case.now day.days.search.nurse
-  pub of_day : IsStretchOf day from.stretch
-  pub alike : AllAlike day from.stretch
-  pub shape : from.shape ≡ shape_of day from.stretch
-  pub worked : IsWorkedDay day.days.search.case.now day.days.search.nurse day.day (with_assignments from.stretch.block from.stretch.from) from.worked
+pub record IsStretchDay (day : OpenDay) (here : StretchDay) : Type 0 where
+  pub rules : here.rules ≡ contract_of day.days.search.case.now day.days.search.nurse
+  pub of_day : IsStretchOf day here.stretch
+  pub alike : AllAlike day here.stretch
+  pub shape : here.shape ≡ shape_of day here.stretch
+  pub worked : IsWorkedDay day.days.search.case.now day.days.search.nurse day.day (with_assignments here.stretch.block here.stretch.begin) here.worked
 
 -- how many states it has, and how many steps it takes
 abbrev pub states_of : Stretch → ℕ
-states_of stretch = stretch.rows * (stretch.end - stretch.from)
+states_of stretch = stretch.rows * (stretch.end - stretch.begin)
 
 abbrev pub stretch_steps : OpenDay → Stretch → ℕ
 stretch_steps day stretch = length day.offers.now * states_of stretch
 
 -- how many places it takes, with what stands between its rows: these stand one after another, each so many places after the one before
 abbrev pub places_of : OpenDay → Stretch → ℕ
-places_of day stretch = (stretch.rows - 1) * day.days.ranges.assignments + (stretch.end - stretch.from)
+places_of day stretch = (stretch.rows - 1) * day.days.ranges.assignments + (stretch.end - stretch.begin)
 
 -- the label and the pointer of the state with so many assignments are those of the least of some offers
 abbrev pub LeastFrom : OpenDay → Summary → List Offer → ℕ → ℕ → ℕ → Type 0
@@ -157,7 +157,7 @@ LeastFrom day s offers a label pointer = AreOfLeast (best_with day (with_assignm
 -- the labels and the pointers of a stretch by some offers, in two lists that begin with its first place
 abbrev pub RunCells : OpenDay → Stretch → List Offer → List ℕ → List ℕ → Type 0
 RunCells day stretch offers labels pointers =
-    (i b : ℕ) → i < stretch.rows → b < stretch.end - stretch.from → LeastFrom day (with_weekends stretch.block (stretch.block.weekends + i)) offers (stretch.from + b) (slice_index_or labels (i * day.days.ranges.assignments + b) 0) (slice_index_or pointers (i * day.days.ranges.assignments + b) 0)
+    (i b : ℕ) → i < stretch.rows → b < stretch.end - stretch.begin → LeastFrom day (with_weekends stretch.block (stretch.block.weekends + i)) offers (stretch.begin + b) (slice_index_or labels (i * day.days.ranges.assignments + b) 0) (slice_index_or pointers (i * day.days.ranges.assignments + b) 0)
 
 -- so long are two lists for it
 pub record HaveLength (day : OpenDay) (stretch : Stretch) (labels numbers : List ℕ) : Type 0 where
@@ -170,14 +170,14 @@ pub record AreLabelsBy (day : OpenDay) (stretch : Stretch) (place first dearer :
   pub read : slice_index_or day.offers.now place offer ≡ offer
   pub room : first + places_of day stretch ≤ length day.later.now
   pub few : dearer < no_row
-  pub low : (i b : ℕ) → i < stretch.rows → b < stretch.end - stretch.from → slice_index_or day.later.now (first + (i * day.days.ranges.assignments + b)) 0 ≤ no_row
-  pub labels : (i b : ℕ) → i < stretch.rows → b < stretch.end - stretch.from
-      → min (dearer + slice_index_or day.later.now (first + (i * day.days.ranges.assignments + b)) 0) no_row ≡ label_of (best_with day (stretch_state stretch.block stretch.from i b) offer)
+  pub low : (i b : ℕ) → i < stretch.rows → b < stretch.end - stretch.begin → slice_index_or day.later.now (first + (i * day.days.ranges.assignments + b)) 0 ≤ no_row
+  pub labels : (i b : ℕ) → i < stretch.rows → b < stretch.end - stretch.begin
+      → min (dearer + slice_index_or day.later.now (first + (i * day.days.ranges.assignments + b)) 0) no_row ≡ label_of (best_with day (stretch_state stretch.block stretch.begin i b) offer)
 
 -- the offer is allowed from none of its states
 abbrev pub AreRefusedBy : OpenDay → Stretch → ℕ → Type 0
 AreRefusedBy day stretch place =
-    (i b : ℕ) (d : Offer) → i < stretch.rows → b < stretch.end - stretch.from → no_row ≡ label_of (best_with day (stretch_state stretch.block stretch.from i b) (slice_index_or day.offers.now place d))
+    (i b : ℕ) (d : Offer) → i < stretch.rows → b < stretch.end - stretch.begin → no_row ≡ label_of (best_with day (stretch_state stretch.block stretch.begin i b) (slice_index_or day.offers.now place d))
 
 -- two lists keep their lengths
 pub record KeepLengths (labels_old labels numbers_old numbers : List ℕ) : Type 0 where
@@ -200,14 +200,14 @@ NoneYet day stretch count long = RunCells day stretch (take count day.offers.now
 -- the labels and the pointers of a stretch by all offers, in the tables of the day
 abbrev pub StretchCells : OpenDay → Stretch → List ℕ → List ℕ → Type 0
 StretchCells day stretch labels pointers =
-    (i a : ℕ) → i < stretch.rows → stretch.from ≤ a → a < stretch.end → LeastFrom day (with_weekends stretch.block (stretch.block.weekends + i)) day.offers.now a
+    (i a : ℕ) → i < stretch.rows → stretch.begin ≤ a → a < stretch.end → LeastFrom day (with_weekends stretch.block (stretch.block.weekends + i)) day.offers.now a
     (slice_index_or labels (code_of day.days.ranges stretch.block + (i * day.days.ranges.assignments + a)) 0)
     (slice_index_or pointers (day.first + code_of day.days.ranges stretch.block + (i * day.days.ranges.assignments + a)) 0)
 
 -- in its rows the places before its first one and after its last are the old ones
 abbrev pub PlacesKept : OpenDay → Stretch → ℕ → (old new : List ℕ) → Type 0
 PlacesKept day stretch first old new =
-    (i a : ℕ) → i < stretch.rows → a < day.days.ranges.assignments → (a < stretch.from) ⊎ (stretch.end ≤ a) → slice_index_or new (first + (i * day.days.ranges.assignments + a)) 0 ≡ slice_index_or old (first + (i * day.days.ranges.assignments + a)) 0
+    (i a : ℕ) → i < stretch.rows → a < day.days.ranges.assignments → (a < stretch.begin) ⊎ (stretch.end ≤ a) → slice_index_or new (first + (i * day.days.ranges.assignments + a)) 0 ≡ slice_index_or old (first + (i * day.days.ranges.assignments + a)) 0
 
 -- the tables stay but for its rows
 abbrev pub KeepBeside : OpenDay → Stretch → (labels_old labels pointers_old pointers : List ℕ) → Type 0
@@ -216,7 +216,7 @@ KeepBeside day stretch labels_old labels pointers_old pointers =
 
 -- its numbers are put in the places of its pointers, and nothing else is
 pub record ArePointersPut (day : OpenDay) (stretch : Stretch) (numbers old new : List ℕ) : Type 0 where
-  pub inside : (i b : ℕ) → i < stretch.rows → b < stretch.end - stretch.from → slice_index_or new (day.first + code_of day.days.ranges stretch.block + stretch.from + (i * day.days.ranges.assignments + b)) 0 ≡ slice_index_or numbers (i * day.days.ranges.assignments + b) 0
+  pub inside : (i b : ℕ) → i < stretch.rows → b < stretch.end - stretch.begin → slice_index_or new (day.first + code_of day.days.ranges stretch.block + stretch.begin + (i * day.days.ranges.assignments + b)) 0 ≡ slice_index_or numbers (i * day.days.ranges.assignments + b) 0
   pub kept : PlacesKept day stretch (day.first + code_of day.days.ranges stretch.block) old new
   pub beside : KeepsRest (day.first + code_of day.days.ranges stretch.block) (stretch.rows * day.days.ranges.assignments) old new
 

@@ -166,9 +166,9 @@ fn label_group(
     }
     let side = days.ranges.assignments();
     let area = area_of(day.areas, group.last_number());
-    let (from, end) = area.assignments.below(side);
+    let (begin, end) = area.assignments.below(side);
     let (first, last) = area.weekends.below(days.ranges.weekends());
-    if end <= from {
+    if end <= begin {
         return;
     }
     let mut weekends = first;
@@ -177,7 +177,7 @@ fn label_group(
         let left = Stretch {
             block,
             rows: last - weekends,
-            from,
+            begin,
             end,
         };
         let alike = own.alike_rows(day.day, &left);
@@ -225,13 +225,13 @@ fn label_rows(
         ..
     } = day.days;
     let own = NurseDays { case, nurse, rules };
-    let mut from = rows.from;
-    while from < rows.end {
-        let left = Stretch { from, ..*rows };
+    let mut begin = rows.begin;
+    while begin < rows.end {
+        let left = Stretch { begin, ..*rows };
         let end = own.alike_end(&left);
         let part = Stretch { end, ..left };
         label_stretch(day, &part, labels, pointers, &mut room.numbers, meter);
-        from = end;
+        begin = end;
     }
 }
 
@@ -255,9 +255,9 @@ fn label_stretch(
 {
     let ranges = &day.days.ranges;
     let first = stretch.block.first(ranges);
-    let code = first as usize + stretch.from as usize;
+    let code = first as usize + stretch.begin as usize;
     let between = (stretch.rows - 1) * ranges.assignments();
-    let count = (between + (stretch.end - stretch.from)) as usize;
+    let count = (between + (stretch.end - stretch.begin)) as usize;
     let numbers = &mut numbers[..count];
     label_run(
         day,
@@ -286,9 +286,9 @@ fn put_numbers(
     ensures put { ArePointersPut day.now stretch.now numbers.now pointers.old pointers.new }
 {
     let side = day.days.ranges.assignments();
-    let code = first as usize + stretch.from as usize;
+    let code = first as usize + stretch.begin as usize;
     // One row alone, and rows that touch, are one run of places.
-    if stretch.rows == 1 || stretch.end - stretch.from == side {
+    if stretch.rows == 1 || stretch.end - stretch.begin == side {
         pointers.set_run(day.first as usize + code, numbers);
         return;
     }
@@ -312,8 +312,8 @@ fn put_apart(
     ensures put { ArePointersPut day.now stretch.now numbers.now pointers.old pointers.new }
 {
     let side = day.days.ranges.assignments() as usize;
-    let width = (stretch.end - stretch.from) as usize;
-    let code = first as usize + stretch.from as usize;
+    let width = (stretch.end - stretch.begin) as usize;
+    let code = first as usize + stretch.begin as usize;
     'rows: for row in 0..stretch.rows as usize {
         let at = row * side;
         pointers.set_run(day.first as usize + code + at, &numbers[at..at + width]);
@@ -355,7 +355,7 @@ fn label_run(
         ..
     } = day.days;
     let days = NurseDays { case, nurse, rules };
-    let from = StretchDay {
+    let here = StretchDay {
         stretch: *stretch,
         shape: row_shape(day, stretch),
         rules,
@@ -364,25 +364,25 @@ fn label_run(
     let mut is_set = false;
     for place in 0..day.offers.len() {
         if is_set {
-            lower_run(day, &from, place, labels, numbers, meter);
+            lower_run(day, &here, place, labels, numbers, meter);
         } else {
-            is_set = set_run(day, &from, place, labels, numbers, meter);
+            is_set = set_run(day, &here, place, labels, numbers, meter);
         }
     }
     if !is_set {
-        clear_rows(from.shape, labels, numbers);
+        clear_rows(here.shape, labels, numbers);
     }
 }
 
 /// The rows of a stretch.
 #[inline(always)]
 fn row_shape(day: &OpenDay<'_, '_>, stretch: &Stretch) -> RowShape
-    requires { stretch.now.from < stretch.now.end }
+    requires { stretch.now.begin < stretch.now.end }
     ensures { result ≡ shape_of day.now stretch.now }
 {
     RowShape {
         rows: stretch.rows as usize,
-        width: (stretch.end - stretch.from) as usize,
+        width: (stretch.end - stretch.begin) as usize,
         side: day.days.ranges.assignments() as usize,
     }
 }
@@ -392,25 +392,25 @@ fn row_shape(day: &OpenDay<'_, '_>, stretch: &Stretch) -> RowShape
 #[inline(always)]
 fn labels_by(
     day: &OpenDay<'_, '_>,
-    from: &StretchDay,
+    here: &StretchDay,
     place: usize,
     meter: &mut Meter,
 ) -> Option<(usize, u32)>
-    requires from { IsStretchDay day.now from.now }
+    requires here { IsStretchDay day.now here.now }
     requires place { place < length day.now.offers.now }
-    requires room { meter.old + states_of from.now.stretch ≤ greatest_u64 }
-    ensures by { IfSome result (λ r. AreLabelsBy day.now from.now.stretch place r.0 r.1) }
-    ensures none { result ≡ None → AreRefusedBy day.now from.now.stretch place }
-    ensures counted { meter.new ≡ meter.old + states_of from.now.stretch }
+    requires room { meter.old + states_of here.now.stretch ≤ greatest_u64 }
+    ensures by { IfSome result (λ r. AreLabelsBy day.now here.now.stretch place r.0 r.1) }
+    ensures none { result ≡ None → AreRefusedBy day.now here.now.stretch place }
+    ensures counted { meter.new ≡ meter.old + states_of here.now.stretch }
 {
     let offer = day.offers[place];
     let shift = offer.choice.shift();
     let days = NurseDays {
         case: day.days.search.case,
         nurse: day.days.search.nurse,
-        rules: from.rules,
+        rules: here.rules,
     };
-    let (stretch, worked) = (&from.stretch, &from.worked);
+    let (stretch, worked) = (&here.stretch, &here.worked);
     let Some(step) = days.extend_stretch(day.day, stretch, worked, shift, meter) else {
         return None;
     };
@@ -422,30 +422,30 @@ fn labels_by(
 /// answer is whether it is allowed.
 fn set_run(
     day: &OpenDay<'_, '_>,
-    from: &StretchDay,
+    here: &StretchDay,
     place: usize,
     labels: &mut [u32],
     numbers: &mut [u8],
     meter: &mut Meter,
 ) -> bool
-    requires from { IsStretchDay day.now from.now }
+    requires here { IsStretchDay day.now here.now }
     requires place { place < length day.now.offers.now }
-    requires lengths { HaveLength day.now from.now.stretch labels.old numbers.old }
-    requires none { NoneYet day.now from.now.stretch place (length labels.old) }
-    requires room { meter.old + states_of from.now.stretch ≤ greatest_u64 }
+    requires lengths { HaveLength day.now here.now.stretch labels.old numbers.old }
+    requires none { NoneYet day.now here.now.stretch place (length labels.old) }
+    requires room { meter.old + states_of here.now.stretch ≤ greatest_u64 }
     ensures least { result ≡ true →
-        IsLowered day.now from.now.stretch (place + 1) labels.new numbers.new }
+        IsLowered day.now here.now.stretch (place + 1) labels.new numbers.new }
     ensures none { result ≡ false →
-        NoneYet day.now from.now.stretch (place + 1) (length labels.new) }
-    ensures between { BetweenRowsKept from.now.shape labels.old labels.new }
+        NoneYet day.now here.now.stretch (place + 1) (length labels.new) }
+    ensures between { BetweenRowsKept here.now.shape labels.old labels.new }
     ensures lengths { KeepLengths labels.old labels.new numbers.old numbers.new }
-    ensures counted { meter.new ≡ meter.old + states_of from.now.stretch }
+    ensures counted { meter.new ≡ meter.old + states_of here.now.stretch }
 {
-    let Some(by) = labels_by(day, from, place, meter) else {
+    let Some(by) = labels_by(day, here, place, meter) else {
         return false;
     };
     let others = &day.later[by.0..by.0 + labels.len()];
-    set_rows(from.shape, labels, numbers, others, by.1, place as u8);
+    set_rows(here.shape, labels, numbers, others, by.1, place as u8);
     true
 }
 
@@ -453,24 +453,24 @@ fn set_run(
 /// first stays.
 fn lower_run(
     day: &OpenDay<'_, '_>,
-    from: &StretchDay,
+    here: &StretchDay,
     place: usize,
     labels: &mut [u32],
     numbers: &mut [u8],
     meter: &mut Meter,
 )
-    requires from { IsStretchDay day.now from.now }
+    requires here { IsStretchDay day.now here.now }
     requires place { place < length day.now.offers.now }
-    requires lengths { HaveLength day.now from.now.stretch labels.old numbers.old }
-    requires least { IsLowered day.now from.now.stretch place labels.old numbers.old }
-    requires room { meter.old + states_of from.now.stretch ≤ greatest_u64 }
-    ensures least { IsLowered day.now from.now.stretch (place + 1) labels.new numbers.new }
-    ensures between { BetweenRowsKept from.now.shape labels.old labels.new }
+    requires lengths { HaveLength day.now here.now.stretch labels.old numbers.old }
+    requires least { IsLowered day.now here.now.stretch place labels.old numbers.old }
+    requires room { meter.old + states_of here.now.stretch ≤ greatest_u64 }
+    ensures least { IsLowered day.now here.now.stretch (place + 1) labels.new numbers.new }
+    ensures between { BetweenRowsKept here.now.shape labels.old labels.new }
     ensures lengths { KeepLengths labels.old labels.new numbers.old numbers.new }
-    ensures counted { meter.new ≡ meter.old + states_of from.now.stretch }
+    ensures counted { meter.new ≡ meter.old + states_of here.now.stretch }
 {
-    if let Some(by) = labels_by(day, from, place, meter) {
+    if let Some(by) = labels_by(day, here, place, meter) {
         let others = &day.later[by.0..by.0 + labels.len()];
-        lower_rows(from.shape, labels, numbers, others, by.1, place as u8);
+        lower_rows(here.shape, labels, numbers, others, by.1, place as u8);
     }
 }

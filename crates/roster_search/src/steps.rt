@@ -58,6 +58,6 @@ fn numbers_in(span: Span, size: u32) -> u64
     ensures exactly { result ≡ numbers_in span size }
     ensures within { result ≤ size }
 {
-    let (from, end) = span.below(size);
-    (end - from) as u64
+    let (begin, end) = span.below(size);
+    (end - begin) as u64
 }

@@ -28,12 +28,12 @@ one_few : (b : Bool) → one_if b ≤ 1
 one_few true = omega arith
 one_few false = omega arith
 
-module _ (c : Meaning) (n day : ℕ) (s : Summary) (rows from end : ℕ) (alike : IsAlike c n day s rows from end) (i b : ℕ) (in_rows : i < rows) (in_places : b < end - from) (below : from < cap (contract_of c n).total + 1) where
+module _ (c : Meaning) (n day : ℕ) (s : Summary) (rows begin end : ℕ) (alike : IsAlike c n day s rows begin end) (i b : ℕ) (in_rows : i < rows) (in_places : b < end - begin) (below : begin < cap (contract_of c n).total + 1) where
   abbrev first : Summary
-  first = with_assignments s from
+  first = with_assignments s begin
 
   abbrev other : Summary
-  other = stretch_state s from i b
+  other = stretch_state s begin i b
 
   module _ (shift : Option Shift) where
     abbrev counts : ℕ
@@ -57,19 +57,19 @@ module _ (c : Meaning) (n day : ℕ) (s : Summary) (rows from end : ℕ) (alike 
         go (inl some) = weekend_same weekend_weight (contract_of c n).weekends s.weekends i counts (row_room some)
         go (inr none) = let same : s.weekends ≡ s.weekends + i = omega (arith, none) in ap (λ w. if nat_le (contract_of c n).weekends w then weekend_weight * counts else 0) same
 
-    assignments_far : min (from + one_if (is_some shift)) (cap (contract_of c n).total) + b ≡ min (from + b + one_if (is_some shift)) (cap (contract_of c n).total)
+    assignments_far : min (begin + one_if (is_some shift)) (cap (contract_of c n).total) + b ≡ min (begin + b + one_if (is_some shift)) (cap (contract_of c n).total)
     assignments_far = go (cases_lt 0 b)
       where
-        go : (0 < b) ⊎ (b ≤ 0) → min (from + one_if (is_some shift)) (cap (contract_of c n).total) + b ≡ min (from + b + one_if (is_some shift)) (cap (contract_of c n).total)
+        go : (0 < b) ⊎ (b ≤ 0) → min (begin + one_if (is_some shift)) (cap (contract_of c n).total) + b ≡ min (begin + b + one_if (is_some shift)) (cap (contract_of c n).total)
         go (inl some) = omega (arith, alike.assignments (omega (arith, some, in_places)), in_places, one_few (is_some shift))
         go (inr none) = omega (arith, none)
 
-  level_same : nat_le (contract_of c n).total.greatest from ≡ nat_le (contract_of c n).total.greatest (from + b)
-  level_same = go (cases_lt from (contract_of c n).total.greatest)
+  level_same : nat_le (contract_of c n).total.greatest begin ≡ nat_le (contract_of c n).total.greatest (begin + b)
+  level_same = go (cases_lt begin (contract_of c n).total.greatest)
     where
-      go : (from < (contract_of c n).total.greatest) ⊎ ((contract_of c n).total.greatest ≤ from) → nat_le (contract_of c n).total.greatest from ≡ nat_le (contract_of c n).total.greatest (from + b)
-      go (inl low) = lt-leb (contract_of c n).total.greatest from low ∙ sym (lt-leb (contract_of c n).total.greatest (from + b) (omega (arith, alike.level low, in_places)))
-      go (inr high) = le-leb (contract_of c n).total.greatest from high ∙ sym (le-leb (contract_of c n).total.greatest (from + b) (omega (arith, high)))
+      go : (begin < (contract_of c n).total.greatest) ⊎ ((contract_of c n).total.greatest ≤ begin) → nat_le (contract_of c n).total.greatest begin ≡ nat_le (contract_of c n).total.greatest (begin + b)
+      go (inl low) = lt-leb (contract_of c n).total.greatest begin low ∙ sym (lt-leb (contract_of c n).total.greatest (begin + b) (omega (arith, alike.level low, in_places)))
+      go (inr high) = le-leb (contract_of c n).total.greatest begin high ∙ sym (le-leb (contract_of c n).total.greatest (begin + b) (omega (arith, high)))
 
   next_alike : (shift : Option Shift) → with_assignments (record (next_of c n day first shift) { weekends = (next_of c n day first shift).weekends + i }) ((next_of c n day first shift).assignments + b) ≡ next_of c n day other shift
   unfolding next_of

@@ -182,19 +182,19 @@ fn area_with(
     nurse: usize,
     day: u16,
     area: &Area,
-    from: &Area,
+    before: &Area,
     last: Option<Shift>,
     shift: Option<Shift>,
 ) -> Area
     ensures keeps { (s : Summary) → InArea area.now s → InArea result s }
-    ensures leads { (s : Summary) → s.last ≡ last → InArea from.now s →
+    ensures leads { (s : Summary) → s.last ≡ last → InArea before.now s →
         forbids case.now.successions last shift ≡ false →
         InArea result (next_of case.now nurse day s shift) }
 {
-    if from.is_empty() || case.forbids_next(last, shift) {
+    if before.is_empty() || case.forbids_next(last, shift) {
         return *area;
     }
-    area.joined(&area_after(case, nurse, day, from, last, shift))
+    area.joined(&area_after(case, nurse, day, before, last, shift))
 }
 
 /// Where the states of an area with this last shift lead by a shift or a day off.
@@ -202,21 +202,21 @@ fn area_after(
     case: &Case,
     nurse: usize,
     day: u16,
-    from: &Area,
+    before: &Area,
     last: Option<Shift>,
     shift: Option<Shift>,
 ) -> Area
-    ensures { (s : Summary) → s.last ≡ last → InArea from.now s →
+    ensures { (s : Summary) → s.last ≡ last → InArea before.now s →
         InArea result (next_of case.now nurse day s shift) }
 {
     let rules = case.contract_rules(nurse);
     let weekends = weekends_more(day, last, shift);
     let assignments = shift.is_some() as u32;
     Area {
-        run: run_after(case, nurse, from.run, last, shift),
-        shift_run: shift_run_after(case, from.shift_run, last, shift),
-        weekends: from.weekends.raised(weekends, rules.weekends),
-        assignments: from.assignments.raised(assignments, rules.total.cap()),
+        run: run_after(case, nurse, before.run, last, shift),
+        shift_run: shift_run_after(case, before.shift_run, last, shift),
+        weekends: before.weekends.raised(weekends, rules.weekends),
+        assignments: before.assignments.raised(assignments, rules.total.cap()),
     }
 }
 

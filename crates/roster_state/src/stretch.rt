@@ -17,7 +17,7 @@ use roster_instance::Shift;
 pub struct Stretch {
     pub block: Block,
     pub rows: u32,
-    pub from: u32,
+    pub begin: u32,
     pub end: u32,
 }
 
@@ -44,23 +44,23 @@ impl NurseDays<'_> {
     /// below the cap, or the cap alone.
     #[inline(always)]
     pub fn alike_end(&self, stretch: &Stretch) -> u32
-        requires places { stretch.now.from < stretch.now.end }
+        requires places { stretch.now.begin < stretch.now.end }
         requires within { stretch.now.end
             ≤ (sizes_of self.now.case.now self.now.nurse).assignments }
-        ensures some { stretch.now.from < result }
+        ensures some { stretch.now.begin < result }
         ensures within { result ≤ stretch.now.end }
-        ensures places { stretch.now.from + 1 < result →
+        ensures places { stretch.now.begin + 1 < result →
             result ≤ cap (contract_of self.now.case.now self.now.nurse).total }
-        ensures level { stretch.now.from
+        ensures level { stretch.now.begin
             < (contract_of self.now.case.now self.now.nurse).total.greatest →
             result ≤ (contract_of self.now.case.now self.now.nurse).total.greatest }
     {
         let total = self.rules.total;
         let (greatest, cap) = (total.greatest as u32, total.cap() as u32);
         let end = stretch.end;
-        if stretch.from < greatest {
+        if stretch.begin < greatest {
             end.min(greatest)
-        } else if stretch.from < cap {
+        } else if stretch.begin < cap {
             end.min(cap)
         } else {
             end

@@ -62,13 +62,13 @@ impl NurseDays<'_> {
     /// What a worked day brings to the first state of a stretch.
     #[inline(always)]
     pub fn worked_stretch(&self, day: u16, stretch: &Stretch) -> WorkedDay
-        requires places { stretch.now.from
+        requires places { stretch.now.begin
             < (sizes_of self.now.case.now self.now.nurse).assignments }
         ensures { IsWorkedDay self.now.case.now self.now.nurse day
-            (with_assignments stretch.now.block stretch.now.from) result }
+            (with_assignments stretch.now.block stretch.now.begin) result }
     {
         self.case.keeps_limits();
-        self.worked(day, stretch.block.state(stretch.from as u16))
+        self.worked(day, stretch.block.state(stretch.begin as u16))
     }
 
     /// The state with one day more, on which the nurse works this shift or is off, and what the day costs, where it is known what a worked
@@ -117,16 +117,16 @@ impl NurseDays<'_> {
         requires shift { IfSome shift (λ s. s.0 < shift_count self.now.case.now) }
         requires fits { fits_sizes (sizes_of self.now.case.now self.now.nurse)
             stretch.now.block ≡ true }
-        requires places { stretch.now.from
+        requires places { stretch.now.begin
             < (sizes_of self.now.case.now self.now.nurse).assignments }
         requires alike { IsAlike self.now.case.now self.now.nurse day stretch.now.block
-            stretch.now.rows stretch.now.from stretch.now.end }
+            stretch.now.rows stretch.now.begin stretch.now.end }
         requires worked { IsWorkedDay self.now.case.now self.now.nurse day
-            (with_assignments stretch.now.block stretch.now.from) worked.now }
+            (with_assignments stretch.now.block stretch.now.begin) worked.now }
         requires room { meter.old + stretch.now.rows
-            * (stretch.now.end - stretch.now.from) ≤ greatest_u64 }
+            * (stretch.now.end - stretch.now.begin) ≤ greatest_u64 }
         ensures counted { meter.new ≡ meter.old + stretch.now.rows
-            * (stretch.now.end - stretch.now.from) }
+            * (stretch.now.end - stretch.now.begin) }
         ensures steps { AreStretchSteps self.now.case.now self.now.nurse day stretch.now shift
             result }
         ensures next_fits { IfSome result
@@ -134,9 +134,9 @@ impl NurseDays<'_> {
         ensures within { IfSome result (λ step. step.1 ≤ most_of_step) }
     {
         self.case.keeps_limits();
-        let places = stretch.end.saturating_sub(stretch.from);
+        let places = stretch.end.saturating_sub(stretch.begin);
         meter.add(stretch.rows as u64 * places as u64);
-        let first = stretch.block.state(stretch.from as u16);
+        let first = stretch.block.state(stretch.begin as u16);
         self.step(day, first, worked, shift)
     }
 

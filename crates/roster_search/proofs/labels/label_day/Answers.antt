@@ -20,13 +20,13 @@ runs_here : (c : After-below-first_run) → Goes (area_at c.args.day.now.areas.n
 runs_here c =
     let is = c.area_of-area.ensures in
     let size = c.run-runs.ensures.run ∙ ap (λ (y : Sizes). y.run) c.args.day.now.days.own_ranges in
-    record { end_is = c.below-first_run.ensures.end ∙ (λ i. min ((is i).run.greatest + 1) (size i)); from_is = c.below-first_run.ensures.first ∙ ap (λ (x : Area). min x.run.least c.below-first_run.result.1) is }
+    record { end_is = c.below-first_run.ensures.end ∙ (λ i. min ((is i).run.greatest + 1) (size i)); begin_is = c.below-first_run.ensures.first ∙ ap (λ (x : Area). min x.run.least c.below-first_run.result.1) is }
 
 shift_runs_here : (c : After-below-first_shift_run) → Goes (area_at c.args.day.now.areas.now c.loop-last.last).shift_run (sizes_of c.args.day.now.days.search.case.now c.args.day.now.days.search.nurse).shift_run c.below-first_shift_run.result.0 c.below-first_shift_run.result.1
 shift_runs_here c =
     let is = c.area_of-area.ensures in
     let size = c.shift_run-shift_runs.ensures.shift_run ∙ ap (λ (y : Sizes). y.shift_run) c.args.day.now.days.own_ranges in
-    record { end_is = c.below-first_shift_run.ensures.end ∙ (λ i. min ((is i).shift_run.greatest + 1) (size i)); from_is = c.below-first_shift_run.ensures.first ∙ ap (λ (x : Area). min x.shift_run.least c.below-first_shift_run.result.1) is }
+    record { end_is = c.below-first_shift_run.ensures.end ∙ (λ i. min ((is i).shift_run.greatest + 1) (size i)); begin_is = c.below-first_shift_run.ensures.first ∙ ap (λ (x : Area). min x.shift_run.least c.below-first_shift_run.result.1) is }
 
 -- the run that is gone through
 run_in : (c : After-below-first_run) (run : ℕ) → run < c.below-first_run.result.1 → run < (sizes_of c.args.day.now.days.search.case.now c.args.day.now.days.search.nurse).run
@@ -44,10 +44,10 @@ loop-run-init c =
     let at = goal.at.loop-run-init c in
     let day = c.args.day.now in
     let last = c.loop-last.last in
-    let from = c.below-first_run.result.0 in
+    let begin = c.below-first_run.result.0 in
     let runs = runs_here at.After-below-first_run in
     let none = sum_begun runs (states_of_run day.days.search.case.now day.days.search.nurse day.areas.now last) in
-    done_on c.loop-last.invariant (group_key last from 0) (runs_below day last from) (λ s stands. before_first_run _ _ _ (few_here at.After-shift_run-shift_runs) s stands last runs) (omega (arith, none))
+    done_on c.loop-last.invariant (group_key last begin 0) (runs_below day last begin) (λ s stands. before_first_run _ _ _ (few_here at.After-shift_run-shift_runs) s stands last runs) (omega (arith, none))
 
 pub loop-shift_run-init : goal.loop-shift_run-init
 loop-shift_run-init c =
@@ -55,10 +55,10 @@ loop-shift_run-init c =
     let day = c.args.day.now in
     let last = c.loop-last.last in
     let run = c.loop-run.run in
-    let from = c.below-first_shift_run.result.0 in
+    let begin = c.below-first_shift_run.result.0 in
     let shift_runs = shift_runs_here at.After-below-first_shift_run in
     let none = sum_begun shift_runs (λ q. states_with day.days.search.case.now day.days.search.nurse day.areas.now (group_of last run q)) in
-    done_on c.loop-run.invariant (group_key last run from) (groups_below day last run from)
+    done_on c.loop-run.invariant (group_key last run begin) (groups_below day last run begin)
     (λ s stands. before_first_shift_run _ _ _ (few_here at.After-shift_run-shift_runs) s stands last run (run_in at.After-below-first_run run c.loop-run-test.true) shift_runs) (omega (arith, none))
 
 pub label_group-requires-clause-group : goal.label_group-requires-clause-group

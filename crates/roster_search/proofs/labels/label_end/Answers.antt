@@ -20,13 +20,13 @@ runs_here : (c : After-below-first_run) → Goes (area_at c.args.areas.now c.loo
 runs_here c =
     let is = c.area_of-area.ensures in
     let size = c.run-runs.ensures.run ∙ ap (λ (y : Sizes). y.run) c.args.days.now.own_ranges in
-    record { end_is = c.below-first_run.ensures.end ∙ (λ i. min ((is i).run.greatest + 1) (size i)); from_is = c.below-first_run.ensures.first ∙ ap (λ (x : Area). min x.run.least c.below-first_run.result.1) is }
+    record { end_is = c.below-first_run.ensures.end ∙ (λ i. min ((is i).run.greatest + 1) (size i)); begin_is = c.below-first_run.ensures.first ∙ ap (λ (x : Area). min x.run.least c.below-first_run.result.1) is }
 
 shift_runs_here : (c : After-below-first_shift_run) → Goes (area_at c.args.areas.now c.loop-last.last).shift_run (sizes_of c.args.days.now.search.case.now c.args.days.now.search.nurse).shift_run c.below-first_shift_run.result.0 c.below-first_shift_run.result.1
 shift_runs_here c =
     let is = c.area_of-area.ensures in
     let size = c.shift_run-shift_runs.ensures.shift_run ∙ ap (λ (y : Sizes). y.shift_run) c.args.days.now.own_ranges in
-    record { end_is = c.below-first_shift_run.ensures.end ∙ (λ i. min ((is i).shift_run.greatest + 1) (size i)); from_is = c.below-first_shift_run.ensures.first ∙ ap (λ (x : Area). min x.shift_run.least c.below-first_shift_run.result.1) is }
+    record { end_is = c.below-first_shift_run.ensures.end ∙ (λ i. min ((is i).shift_run.greatest + 1) (size i)); begin_is = c.below-first_shift_run.ensures.first ∙ ap (λ (x : Area). min x.shift_run.least c.below-first_shift_run.result.1) is }
 
 -- the run that is gone through
 run_in : (c : After-below-first_run) (run : _) → run < c.below-first_run.result.1 → run < (sizes_of c.args.days.now.search.case.now c.args.days.now.search.nurse).run

@@ -19,23 +19,23 @@ use Rattle.roster_search.proofs.labels.label_group.Goals.{After-below-first, Aft
 -- ---- what is known of the group
 
 -- the assignments that are gone through, and the weekends
-places_here : (c : After-below-first) → Goes (area_at c.args.day.now.areas.now (shift_digit c.args.group.last)).assignments (sizes_of c.args.day.now.days.search.case.now c.args.day.now.days.search.nurse).assignments c.below-from.result.0 c.below-from.result.1
+places_here : (c : After-below-first) → Goes (area_at c.args.day.now.areas.now (shift_digit c.args.group.last)).assignments (sizes_of c.args.day.now.days.search.case.now c.args.day.now.days.search.nurse).assignments c.below-begin.result.0 c.below-begin.result.1
 places_here c =
     let is = c.area_of-area.ensures ∙ ap (area_at c.args.day.now.areas.now) c.last_number.ensures.number in
     let size = c.assignments-side.ensures.assignments ∙ ap (λ (y : Sizes). y.assignments) c.args.day.now.days.own_ranges in
-    record { end_is = c.below-from.ensures.end ∙ (λ i. min ((is i).assignments.greatest + 1) (size i)); from_is = c.below-from.ensures.first ∙ ap (λ (x : Area). min x.assignments.least c.below-from.result.1) is }
+    record { end_is = c.below-begin.ensures.end ∙ (λ i. min ((is i).assignments.greatest + 1) (size i)); begin_is = c.below-begin.ensures.first ∙ ap (λ (x : Area). min x.assignments.least c.below-begin.result.1) is }
 
 weekends_here : (c : After-below-first) → Goes (area_at c.args.day.now.areas.now (shift_digit c.args.group.last)).weekends (sizes_of c.args.day.now.days.search.case.now c.args.day.now.days.search.nurse).weekends c.below-first.result.0 c.below-first.result.1
 weekends_here c =
     let is = c.area_of-area.ensures ∙ ap (area_at c.args.day.now.areas.now) c.last_number.ensures.number in
     let size = c.weekends.ensures.weekends ∙ ap (λ (y : Sizes). y.weekends) c.args.day.now.days.own_ranges in
-    record { end_is = c.below-first.ensures.end ∙ (λ i. min ((is i).weekends.greatest + 1) (size i)); from_is = c.below-first.ensures.first ∙ ap (λ (x : Area). min x.weekends.least c.below-first.result.1) is }
+    record { end_is = c.below-first.ensures.end ∙ (λ i. min ((is i).weekends.greatest + 1) (size i)); begin_is = c.below-first.ensures.first ∙ ap (λ (x : Area). min x.weekends.least c.below-first.result.1) is }
 
 -- a row may lead to its states, and how many stand
 may_be : (c : After-below-first) → can_be c.args.day.now.days.search.case.now c.args.day.now.days.search.nurse c.args.group ≡ true
 may_be c = sym c.can_be.ensures ∙ c.if-not-can_be.false
 
-states_here : (c : After-below-first) → (c.below-first.result.1 - c.below-first.result.0) * (c.below-from.result.1 - c.below-from.result.0) ≡ states_with c.args.day.now.days.search.case.now c.args.day.now.days.search.nurse c.args.day.now.areas.now c.args.group
+states_here : (c : After-below-first) → (c.below-first.result.1 - c.below-first.result.0) * (c.below-begin.result.1 - c.below-begin.result.0) ≡ states_with c.args.day.now.days.search.case.now c.args.day.now.days.search.nurse c.args.day.now.areas.now c.args.group
 states_here c = (λ i. numbers_are (weekends_here c) i * numbers_are (places_here c) i) ∙ sym (some_with c.args.day.now.days.search.case.now c.args.day.now.days.search.nurse c.args.day.now.areas.now c.args.group (may_be c))
 
 pub area_of-area-requires : goal.area_of-area-requires
@@ -61,23 +61,23 @@ pub returns-then-not-can_be-clause-exactly : goal.returns-then-not-can_be-clause
 returns-then-not-can_be-clause-exactly c =
     exactly_on {states = 0} (length c.args.day.now.offers.now) c.args.meter.now c.args.meter.now (omega arith) (sym (none_with c.args.day.now.days.search.case.now c.args.day.now.days.search.nurse c.args.day.now.areas.now c.args.group (sym c.can_be.ensures ∙ c.if-not-can_be.true)))
 
-none_between : (c : After-below-first) → c.below-from.result.1 ≤ c.below-from.result.0 → (s : Summary) → StandsBy c.args.day.now c.args.group s → ⊥
+none_between : (c : After-below-first) → c.below-begin.result.1 ≤ c.below-begin.result.0 → (s : Summary) → StandsBy c.args.day.now c.args.group s → ⊥
 none_between c short s like = let inside = like_place like (places_here c) in omega (arith, inside.0, inside.1, short)
 
-pub returns-then-end-from-clause-tables : goal.returns-then-end-from-clause-tables
-returns-then-end-from-clause-tables c =
-    let none = none_between (goal.at.returns-then-end-from-clause-tables c).After-below-first c.if-end-from.true in
+pub returns-then-end-begin-clause-tables : goal.returns-then-end-begin-clause-tables
+returns-then-end-begin-clause-tables c =
+    let none = none_between (goal.at.returns-then-end-begin-clause-tables c).After-below-first c.if-end-begin.true in
     record { labels_are = λ s like. absurd (none s like); pointers_are = λ s like. absurd (none s like) }
 
-pub returns-then-end-from-clause-beside : goal.returns-then-end-from-clause-beside
-returns-then-end-from-clause-beside c = tables_same c.args.day.now _ _ c.args.labels.now c.args.pointers.now
+pub returns-then-end-begin-clause-beside : goal.returns-then-end-begin-clause-beside
+returns-then-end-begin-clause-beside c = tables_same c.args.day.now _ _ c.args.labels.now c.args.pointers.now
 
-pub returns-then-end-from-clause-exactly : goal.returns-then-end-from-clause-exactly
-returns-then-end-from-clause-exactly c =
-    let zero : c.below-from.result.1 - c.below-from.result.0 ≡ 0 = omega (arith, c.if-end-from.true) in
+pub returns-then-end-begin-clause-exactly : goal.returns-then-end-begin-clause-exactly
+returns-then-end-begin-clause-exactly c =
+    let zero : c.below-begin.result.1 - c.below-begin.result.0 ≡ 0 = omega (arith, c.if-end-begin.true) in
     let rows = c.below-first.result.1 - c.below-first.result.0 in
-    let none : 0 ≡ rows * (c.below-from.result.1 - c.below-from.result.0) = omega arith ∙ ap (λ j. rows * j) (sym zero) in
-    exactly_on {states = 0} (length c.args.day.now.offers.now) c.args.meter.now c.args.meter.now (omega arith) (none ∙ states_here (goal.at.returns-then-end-from-clause-exactly c).After-below-first)
+    let none : 0 ≡ rows * (c.below-begin.result.1 - c.below-begin.result.0) = omega arith ∙ ap (λ j. rows * j) (sym zero) in
+    exactly_on {states = 0} (length c.args.day.now.offers.now) c.args.meter.now c.args.meter.now (omega arith) (none ∙ states_here (goal.at.returns-then-end-begin-clause-exactly c).After-below-first)
 
 -- ---- the rows
 
@@ -91,9 +91,9 @@ pub loop-weekends-init : goal.loop-weekends-init
 loop-weekends-init c = record {
   begun = omega arith;
   inside = c.below-first.ensures.order.0;
-  least = λ w a low high from_a to_a. absurd (omega (arith, low, high));
+  least = λ w a low high begin_a to_a. absurd (omega (arith, low, high));
   beside = tables_same c.args.day.now _ _ c.args.labels.now c.args.pointers.now;
-  counted = none_counted (length c.args.day.now.offers.now) c.below-first.result.0 (c.below-from.result.1 - c.below-from.result.0) c.args.meter.now;
+  counted = none_counted (length c.args.day.now.offers.now) c.below-first.result.0 (c.below-begin.result.1 - c.below-begin.result.0) c.args.meter.now;
 }
 
 pub label_rows-requires-clause-stretch : goal.label_rows-requires-clause-stretch
@@ -102,31 +102,31 @@ label_rows-requires-clause-stretch c =
     let z = day.days.ranges in
     let good = c.requires.group in
     let at = (goal.at.label_rows-requires-clause-stretch c).After-below-first in
-    let from = c.below-from.result.0 in
+    let begin = c.below-begin.result.0 in
     let w = c.loop-weekends.weekends in
     let rows = c.rows_with_room-rows.result in
     let is = sym c.with_weekends-block.ensures in
     let few : w + rows ≤ c.below-first.result.1 = omega (arith, c.rows_with_room-rows.ensures.within, c.alike_rows-alike.ensures.within, c.loop-weekends-test.true) in
     let up_to : c.below-first.result.1 ≤ z.weekends = omega (arith, c.below-first.ensures.order, c.weekends.ensures.weekends) in
-    let places : c.below-from.result.1 ≤ z.assignments = omega (arith, c.below-from.ensures.order, c.assignments-side.ensures.assignments) in
+    let places : c.below-begin.result.1 ≤ z.assignments = omega (arith, c.below-begin.ensures.order, c.assignments-side.ensures.assignments) in
     record {
       fits = subst (λ (b : Summary). fits_sizes z b ≡ true) is (weekends_fit z c.args.group w good.fits (omega (arith, c.loop-weekends-test.true, up_to)));
       without = ap (λ (b : Summary). b.assignments) (sym is) ∙ good.no_assignments;
       some_rows = c.rows_with_room-rows.ensures.some;
-      some_places = c.if-end-from.false;
+      some_places = c.if-end-begin.false;
       weekends = omega (arith, ap (λ (b : Summary). b.weekends) (sym is), few, up_to);
       assignments = places;
       short = omega (arith, c.rows_with_room-rows.ensures.places, ap (λ j. rows * j) c.assignments-side.ensures.assignments);
       stands = λ i b in_rows in_width.
-          subst (λ (x : Summary). StandsOn day (stretch_state x from i b)) is
-          (place_stands day c.args.group good (may_be at) (w + i) (from + b) (omega (arith, in_rows, few, up_to)) (omega (arith, in_width, places))
+          subst (λ (x : Summary). StandsOn day (stretch_state x begin i b)) is
+          (place_stands day c.args.group good (may_be at) (w + i) (begin + b) (omega (arith, in_rows, few, up_to)) (omega (arith, in_width, places))
           (goes_only (weekends_here at) (omega (arith, c.loop-weekends.invariant.begun)) (omega (arith, in_rows, few))) (goes_only (places_here at) (omega arith) (omega (arith, in_width))));
     }
 
 pub label_rows-requires-clause-room : goal.label_rows-requires-clause-room
 label_rows-requires-clause-room c =
     let long = length c.args.day.now.offers.now in
-    let width = c.below-from.result.1 - c.below-from.result.0 in
+    let width = c.below-begin.result.1 - c.below-begin.result.0 in
     let first = c.below-first.result.0 in
     let w = c.loop-weekends.weekends in
     let rows = c.rows_with_room-rows.result in
@@ -143,8 +143,8 @@ loop-weekends-preserved c =
     let z = day.days.ranges in
     let group = c.args.group in
     let good = c.requires.group in
-    let from = c.below-from.result.0 in
-    let end = c.below-from.result.1 in
+    let begin = c.below-begin.result.0 in
+    let end = c.below-begin.result.1 in
     let old = c.loop-weekends.invariant in
     let w = c.loop-weekends.weekends in
     let rows = c.rows_with_room-rows.result in
@@ -152,15 +152,15 @@ loop-weekends-preserved c =
     let is = sym c.with_weekends-block.ensures in
     let few : w + rows ≤ c.below-first.result.1 = omega (arith, c.rows_with_room-rows.ensures.within, c.alike_rows-alike.ensures.within, c.loop-weekends-test.true) in
     let up_to : w + rows ≤ z.weekends = omega (arith, few, c.below-first.ensures.order, c.weekends.ensures.weekends) in
-    let places : end ≤ z.assignments = omega (arith, c.below-from.ensures.order, c.assignments-side.ensures.assignments) in
+    let places : end ≤ z.assignments = omega (arith, c.below-begin.ensures.order, c.assignments-side.ensures.assignments) in
     let code_is : code_of z c.with_weekends-block.result ≡ code_of z group + w * z.assignments = ap (code_of z) (sym is) ∙ code_block z group good.no_weekends good.no_assignments w in
     let within : (w + rows) * z.assignments ≤ z.weekends * z.assignments = mul-le (w + rows) z.assignments z.weekends z.assignments up_to (omega arith) in
     record {
       begun = omega (arith, old.begun);
       inside = few;
-      least = group_more day group from end c.below-first.result.0 w rows places c.loop-weekends.labels c.loop-weekends.pointers c.label_rows.new.labels c.label_rows.new.pointers old.least c.with_weekends-block.result is code_is e.put.beside e.put.least;
+      least = group_more day group begin end c.below-first.result.0 w rows places c.loop-weekends.labels c.loop-weekends.pointers c.label_rows.new.labels c.label_rows.new.pointers old.least c.with_weekends-block.result is code_is e.put.beside e.put.least;
       beside = tables_then old.beside (tables_wider e.put.beside (code_of z group) (z.weekends * z.assignments) (omega (arith, code_is)) (omega (arith, code_is, within)));
-      counted = omega (arith, old.counted, e.counted, rows_counted (length day.offers.now) c.below-first.result.0 w rows (end - from) old.begun);
+      counted = omega (arith, old.counted, e.counted, rows_counted (length day.offers.now) c.below-first.result.0 w rows (end - begin) old.begun);
     }
 
 -- ---- after the last row
@@ -173,7 +173,7 @@ returns-clause-tables c =
 pub returns-clause-exactly : goal.returns-clause-exactly
 returns-clause-exactly c =
     let first = c.below-first.result.0 in
-    let width = c.below-from.result.1 - c.below-from.result.0 in
+    let width = c.below-begin.result.1 - c.below-begin.result.0 in
     let long = length c.args.day.now.offers.now in
     let at_end : c.loop-weekends.weekends ≡ c.below-first.result.1 = omega (arith, c.loop-weekends.invariant.inside, c.loop-weekends-test.false) in
     let states = ap (λ j. (j - first) * width) at_end ∙ states_here (goal.at.returns-clause-exactly c).After-below-first in

@@ -8,9 +8,9 @@ abbrev pub invariant-loop-weekends : goal.invariant-loop-weekends
 invariant-loop-weekends l = record {
   begun : l.first ≤ l.weekends;
   inside : l.weekends ≤ l.last;
-  least : GroupCells l.day l.group l.from l.end l.first l.weekends l.labels l.pointers;
+  least : GroupCells l.day l.group l.begin l.end l.first l.weekends l.labels l.pointers;
   beside : KeepTables l.day (code_of l.day.days.ranges l.group) (group_places l.day.days) l.fn.labels l.labels l.fn.pointers l.pointers;
-  counted : l.meter ≡ l.fn.meter + length l.day.offers.now * ((l.weekends - l.first) * (l.end - l.from));
+  counted : l.meter ≡ l.fn.meter + length l.day.offers.now * ((l.weekends - l.first) * (l.end - l.begin));
 }
 
 abbrev pub decreases-loop-weekends : goal.decreases-loop-weekends

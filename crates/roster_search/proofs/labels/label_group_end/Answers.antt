@@ -17,7 +17,7 @@ weekends_here : (c : After-below-first) → Goes (area_at c.args.areas.now (shif
 weekends_here c =
     let is = c.area_of-area.ensures ∙ ap (area_at c.args.areas.now) c.last_number.ensures.number in
     let size = c.weekends.ensures.weekends ∙ ap (λ (z : Sizes). z.weekends) c.args.days.now.own_ranges in
-    record { end_is = c.below-first.ensures.end ∙ (λ i. min ((is i).weekends.greatest + 1) (size i)); from_is = c.below-first.ensures.first ∙ ap (λ (x : Area). min x.weekends.least c.below-first.result.1) is }
+    record { end_is = c.below-first.ensures.end ∙ (λ i. min ((is i).weekends.greatest + 1) (size i)); begin_is = c.below-first.ensures.first ∙ ap (λ (x : Area). min x.weekends.least c.below-first.result.1) is }
 
 pub area_of-area-requires : goal.area_of-area-requires
 area_of-area-requires c =

@@ -28,9 +28,9 @@ loop-place-init c =
     record {
       least = λ e. absurd cc;
       none = λ e i b in_rows in_width.
-          let by = best_with day (stretch_state stretch.block stretch.from i b) in
+          let by = best_with day (stretch_state stretch.block stretch.begin i b) in
           let j = i * day.days.ranges.assignments + b in
-          let there : j < count = omega (arith, in_stretch stretch.rows (stretch.end - stretch.from) day.days.ranges.assignments i b in_rows in_width, c.requires.lengths.labels_length) in
+          let there : j < count = omega (arith, in_stretch stretch.rows (stretch.end - stretch.begin) day.days.ranges.assignments i b in_rows in_width, c.requires.lengths.labels_length) in
           transport (λ q. AreOfLeast by [] (sym (get_or-replicate count j no_row 0 there) q) (sym (get_or-replicate count j 0 0 there) q)) (least_of_none by);
       between = λ i b wide inside. refl;
       lengths = record { of_labels = refl; of_numbers = refl };
@@ -83,14 +83,14 @@ returns-then-not-is_set-clause-least c i b in_rows in_width =
     let shape = c.row_shape.ensures in
     let count = length c.loop-place.labels in
     let j = i * day.days.ranges.assignments + b in
-    let below = in_stretch stretch.rows (stretch.end - stretch.from) day.days.ranges.assignments i b in_rows in_width in
+    let below = in_stretch stretch.rows (stretch.end - stretch.begin) day.days.ranges.assignments i b in_rows in_width in
     let there : j < count = omega (arith, below, old.lengths.of_labels, c.requires.lengths.labels_length) in
     let cleared = transport (λ q. RowCells (shape q) (λ j label. label ≡ no_row) c.clear_rows.new.labels) c.clear_rows.ensures.labels in
     let zeros = transport (λ q. RowCells (shape q) (λ j number. number ≡ 0) c.clear_rows.new.numbers) c.clear_rows.ensures.numbers in
     let label = get_or-replicate count j no_row 0 there ∙ sym (cleared i b in_rows in_width) in
     let number = get_or-replicate count j 0 0 there ∙ sym (zeros i b in_rows in_width) in
     let all = take_all c.loop-place.place day.offers.now (omega (arith, c.loop-place-test.false)) in
-    transport (λ q. AreOfLeast (best_with day (stretch_state stretch.block stretch.from i b)) (all q) (label q) (number q)) (old.none c.if-not-is_set.true i b in_rows in_width)
+    transport (λ q. AreOfLeast (best_with day (stretch_state stretch.block stretch.begin i b)) (all q) (label q) (number q)) (old.none c.if-not-is_set.true i b in_rows in_width)
 
 pub returns-then-not-is_set-clause-small : goal.returns-then-not-is_set-clause-small
 returns-then-not-is_set-clause-small c i b in_rows in_width =

@@ -24,8 +24,8 @@ label_run-requires-clause-lengths c =
     let good = c.requires.stretch in
     let is = c.assignments.ensures.assignments in
     let stretch = c.args.stretch.now in
-    let code = c.first-first.result + stretch.from in
-    let long = (stretch.rows - 1) * c.assignments.result + (stretch.end - stretch.from) in
+    let code = c.first-first.result + stretch.begin in
+    let long = (stretch.rows - 1) * c.assignments.result + (stretch.end - stretch.begin) in
     let width : code + long - code ≡ long = omega arith in
     record {
       labels_length = length-between c.args.labels.now code (code + long) (in_table good c.first-first.ensures.first is c.requires.tables.labels_room) ∙ width ∙ count_is good is;
@@ -38,13 +38,13 @@ record Labelled (c : After-label_run) (code long : ℕ) : Type 0 where
   labels : length c.label_run.new.labels ≡ long
   put : IsWritten code c.label_run.new.labels c.args.labels.now (put_mid code (code + long - code) c.args.labels.now c.label_run.new.labels)
 
-labelled : (c : After-label_run) → Labelled c (c.first-first.result + c.args.stretch.now.from) ((c.args.stretch.now.rows - 1) * c.assignments.result + (c.args.stretch.now.end - c.args.stretch.now.from))
+labelled : (c : After-label_run) → Labelled c (c.first-first.result + c.args.stretch.now.begin) ((c.args.stretch.now.rows - 1) * c.assignments.result + (c.args.stretch.now.end - c.args.stretch.now.begin))
 labelled c =
     let good = c.requires.stretch in
     let is = c.assignments.ensures.assignments in
     let stretch = c.args.stretch.now in
-    let code = c.first-first.result + stretch.from in
-    let long = (stretch.rows - 1) * c.assignments.result + (stretch.end - stretch.from) in
+    let code = c.first-first.result + stretch.begin in
+    let long = (stretch.rows - 1) * c.assignments.result + (stretch.end - stretch.begin) in
     let room = in_table good c.first-first.ensures.first is c.requires.tables.labels_room in
     let width : code + long - code ≡ long = omega arith in
     let labels = c.label_run.ensures.lengths.of_labels ∙ length-between c.args.labels.now code (code + long) room ∙ width in
@@ -66,17 +66,17 @@ returns-clause-put c =
     let done = labelled (goal.at.returns-clause-put c).After-label_run in
     let is = count_is good c.assignments.ensures.assignments in
     let code_is = c.first-first.ensures.first in
-    let code = c.first-first.result + stretch.from in
-    let long = (stretch.rows - 1) * c.assignments.result + (stretch.end - stretch.from) in
+    let code = c.first-first.result + stretch.begin in
+    let long = (stretch.rows - 1) * c.assignments.result + (stretch.end - stretch.begin) in
     let put = c.put_numbers.ensures.put in
     let labels : ℕ → ℕ = λ k. get_or (put_mid code (code + long - code) c.args.labels.now c.label_run.new.labels) k 0 in
-    let kept = list_kept side stretch.from stretch.end c.first-first.result good.assignments good.some_places _ c.label_run.new.labels c.args.labels.now _ done.put
+    let kept = list_kept side stretch.begin stretch.end c.first-first.result good.assignments good.some_places _ c.label_run.new.labels c.args.labels.now _ done.put
     (λ j below. get_or-between c.args.labels.now code (code + long) j 0 (omega (arith, below, done.labels))) c.label_run.ensures.between in
     record {
       least = stretch_moved day stretch c.label_run.new.labels c.label_run.new.numbers _ c.put_numbers.new.pointers
           (λ i b in_rows in_width.
-          let below = in_stretch stretch.rows (stretch.end - stretch.from) side i b in_rows in_width in
-          let there : code_of day.days.ranges stretch.block + stretch.from + (i * side + b) ≡ code + (i * side + b) = omega (arith, code_is) in
+          let below = in_stretch stretch.rows (stretch.end - stretch.begin) side i b in_rows in_width in
+          let there : code_of day.days.ranges stretch.block + stretch.begin + (i * side + b) ≡ code + (i * side + b) = omega (arith, code_is) in
           ap labels there ∙ done.put.inside (i * side + b) (omega (arith, below, done.labels, is)))
           put.inside c.label_run.ensures.least;
       labels_kept = λ i a in_rows inside beside.

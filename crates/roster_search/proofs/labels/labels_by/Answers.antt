@@ -9,25 +9,25 @@ use Rattle.roster_search.proofs.labels.labels_by.Goals as goal
 pub extend_stretch-requires-clause-shift : goal.extend_stretch-requires-clause-shift
 extend_stretch-requires-clause-shift c =
     let day = c.args.day.now in
-    subst (λ (x : Option Shift). IfSome x (λ u. u.0 < shift_count day.days.search.case.now)) (sym c.shift-shift.ensures) (shift_of_case day.days.search.case.now _ (of_case day c.args.from.now.stretch c.args.place c.requires.place c.shift-shift.result c.shift-shift.ensures).choice)
+    subst (λ (x : Option Shift). IfSome x (λ u. u.0 < shift_count day.days.search.case.now)) (sym c.shift-shift.ensures) (shift_of_case day.days.search.case.now _ (of_case day c.args.here.now.stretch c.args.place c.requires.place c.shift-shift.result c.shift-shift.ensures).choice)
 
 pub extend_stretch-requires-clause-fits : goal.extend_stretch-requires-clause-fits
-extend_stretch-requires-clause-fits c = subst (λ (z : Sizes). fits_sizes z c.args.from.now.stretch.block ≡ true) c.args.day.now.days.own_ranges c.requires.from.of_day.fits
+extend_stretch-requires-clause-fits c = subst (λ (z : Sizes). fits_sizes z c.args.here.now.stretch.block ≡ true) c.args.day.now.days.own_ranges c.requires.here.of_day.fits
 
 pub extend_stretch-requires-clause-places : goal.extend_stretch-requires-clause-places
 extend_stretch-requires-clause-places c =
-    omega (arith, c.requires.from.of_day.some_places, c.requires.from.of_day.assignments, ap (λ (z : Sizes). z.assignments) c.args.day.now.days.own_ranges)
+    omega (arith, c.requires.here.of_day.some_places, c.requires.here.of_day.assignments, ap (λ (z : Sizes). z.assignments) c.args.day.now.days.own_ranges)
 
 pub code-first-requires : goal.code-first-requires
 code-first-requires c = subst (λ (z : Sizes). fits_sizes z c.in-Some.step.0 ≡ true) (sym c.args.day.now.days.own_ranges) c.in-Some.ensures.next_fits
 
 pub overflow_add-result : goal.overflow_add-result
-overflow_add-result c = omega (arith, (of_case c.args.day.now c.args.from.now.stretch c.args.place c.requires.place c.shift-shift.result c.shift-shift.ensures).price, c.in-Some.ensures.within)
+overflow_add-result c = omega (arith, (of_case c.args.day.now c.args.here.now.stretch c.args.place c.requires.place c.shift-shift.result c.shift-shift.ensures).price, c.in-Some.ensures.within)
 
 pub returns-clause-by : goal.returns-clause-by
-returns-clause-by c = labels_by c.args.day.now c.args.from.now.stretch c.args.place c.requires.place c.shift-shift.result c.shift-shift.ensures c.requires.from.of_day c.in-Some.step c.in-Some.ensures.within c.in-Some.ensures.steps c.code-first.result c.code-first.ensures.code
+returns-clause-by c = labels_by c.args.day.now c.args.here.now.stretch c.args.place c.requires.place c.shift-shift.result c.shift-shift.ensures c.requires.here.of_day c.in-Some.step c.in-Some.ensures.within c.in-Some.ensures.steps c.code-first.result c.code-first.ensures.code
 
 -- ---- where the offer is not allowed
 
 pub returns-in_default-clause-none : goal.returns-in_default-clause-none
-returns-in_default-clause-none c _ = refused_by c.args.day.now c.args.from.now.stretch c.args.place c.requires.place c.shift-shift.result c.shift-shift.ensures c.in_default.ensures.steps
+returns-in_default-clause-none c _ = refused_by c.args.day.now c.args.here.now.stretch c.args.place c.requires.place c.shift-shift.result c.shift-shift.ensures c.in_default.ensures.steps

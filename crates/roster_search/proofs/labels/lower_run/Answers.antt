@@ -8,10 +8,10 @@ use Rattle.roster_search.proofs.StretchLaws.{count_short, rows_of, run_refused, 
 use Rattle.roster_search.proofs.labels.lower_run.Goals as goal
 
 pub lower_rows-requires-clause-rows : goal.lower_rows-requires-clause-rows
-lower_rows-requires-clause-rows c = transport (λ q. AreRowsIn (sym c.requires.from.shape q) (length c.args.labels.now)) (rows_of c.requires.from.of_day c.requires.lengths.labels_length)
+lower_rows-requires-clause-rows c = transport (λ q. AreRowsIn (sym c.requires.here.shape q) (length c.args.labels.now)) (rows_of c.requires.here.of_day c.requires.lengths.labels_length)
 
 pub lower_rows-requires-clause-short : goal.lower_rows-requires-clause-short
-lower_rows-requires-clause-short c = omega (arith, count_short c.requires.from.of_day, c.requires.lengths.labels_length)
+lower_rows-requires-clause-short c = omega (arith, count_short c.requires.here.of_day, c.requires.lengths.labels_length)
 
 pub lower_rows-requires-clause-numbers : goal.lower_rows-requires-clause-numbers
 lower_rows-requires-clause-numbers c = c.requires.lengths.numbers_length ∙ sym c.requires.lengths.labels_length
@@ -28,7 +28,7 @@ returns-in-Some-clause-least c =
     let first = c.in-Some.by.0 in
     let count = length c.args.labels.now in
     let old = c.requires.least in
-    let shape = c.requires.from.shape in
+    let shape = c.requires.here.shape in
     let others = between first (first + count) c.args.day.now.later.now in
     let more = c.in-Some.by.1 in
     let labels = transport (λ q. RowCells (shape q) (λ j label. label ≡ min (slice_index_or c.args.labels.now j 0) (raised others more j)) c.lower_rows.new.labels) c.lower_rows.ensures.labels in
@@ -44,6 +44,6 @@ returns-in-Some-clause-least c =
 
 pub returns-in_default-clause-least : goal.returns-in_default-clause-least
 returns-in_default-clause-least c = record {
-  cells = run_refused c.args.day.now c.args.from.now.stretch c.args.place c.requires.place (c.in_default.ensures.none refl) c.args.labels.now c.args.numbers.now c.requires.least.cells;
+  cells = run_refused c.args.day.now c.args.here.now.stretch c.args.place c.requires.place (c.in_default.ensures.none refl) c.args.labels.now c.args.numbers.now c.requires.least.cells;
   small = c.requires.least.small;
 }

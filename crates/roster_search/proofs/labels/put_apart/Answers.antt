@@ -14,8 +14,8 @@ set_run-requires-clause-within c =
     let good = c.requires.stretch in
     let is = c.assignments-side.ensures.assignments in
     let at = c.rows.row * c.assignments-side.result in
-    let long = length-between c.args.numbers.now at (at + (c.args.stretch.now.end - c.args.stretch.now.from)) (omega (arith, row_in_places good c.rows-test.true is, c.requires.numbers)) in
-    let inside : c.args.first + c.args.stretch.now.from + at + (c.args.stretch.now.end - c.args.stretch.now.from) ≤ product c.args.day.now.days.ranges = row_in_table good c.rows-test.true is c.requires.first (omega arith) in
+    let long = length-between c.args.numbers.now at (at + (c.args.stretch.now.end - c.args.stretch.now.begin)) (omega (arith, row_in_places good c.rows-test.true is, c.requires.numbers)) in
+    let inside : c.args.first + c.args.stretch.now.begin + at + (c.args.stretch.now.end - c.args.stretch.now.begin) ≤ product c.args.day.now.days.ranges = row_in_table good c.rows-test.true is c.requires.first (omega arith) in
     omega (arith, long, inside, c.requires.room, c.rows.invariant.beside.length_stays)
 
 pub set_run-requires-clause-small : goal.set_run-requires-clause-small
@@ -23,7 +23,7 @@ set_run-requires-clause-small c i below =
     let good = c.requires.stretch in
     let is = c.assignments-side.ensures.assignments in
     let at = c.rows.row * c.assignments-side.result in
-    let width = c.args.stretch.now.end - c.args.stretch.now.from in
+    let width = c.args.stretch.now.end - c.args.stretch.now.begin in
     let long = length-between c.args.numbers.now at (at + width) (omega (arith, row_in_places good c.rows-test.true is, c.requires.numbers)) in
     let inside : i < width = omega (arith, below, long) in
     let there = row_is good c.rows-test.true is in
@@ -48,23 +48,23 @@ rows-preserved c =
     let is = c.assignments-side.ensures.assignments in
     let row = c.rows.row in
     let old = c.rows.invariant in
-    let wide = stretch.end - stretch.from in
+    let wide = stretch.end - stretch.begin in
     let at = row * c.assignments-side.result in
     let at_is = row_is good in_rows is in
     let code = day.first + code_of day.days.ranges stretch.block in
     let code_is = c.requires.first in
     let long = length-between c.args.numbers.now at (at + wide) (omega (arith, row_in_places good in_rows is, c.requires.numbers)) in
     let pointers = c.set_run.new.self in
-    let others : SameOutside (code + stretch.from + row * size) (code + stretch.from + row * size + wide) c.rows.pointers pointers =
+    let others : SameOutside (code + stretch.begin + row * size) (code + stretch.begin + row * size + wide) c.rows.pointers pointers =
     outside_wider _ _ _ _ c.rows.pointers pointers (omega (arith, at_is, code_is)) (omega (arith, at_is, code_is, long)) c.set_run.ensures.others in
-    let here : (b : ℕ) → b < wide → slice_index_or pointers (code + stretch.from + (row * size + b)) 0 ≡ slice_index_or c.args.numbers.now (row * size + b) 0 =
+    let here : (b : ℕ) → b < wide → slice_index_or pointers (code + stretch.begin + (row * size + b)) 0 ≡ slice_index_or c.args.numbers.now (row * size + b) 0 =
     λ b inside.
-    let there : code + stretch.from + (row * size + b) ≡ day.first + (c.args.first + stretch.from) + at + b = omega (arith, at_is, code_is) in
+    let there : code + stretch.begin + (row * size + b) ≡ day.first + (c.args.first + stretch.begin) + at + b = omega (arith, at_is, code_is) in
     ap (λ k. slice_index_or pointers k 0) there ∙ c.set_run.ensures.inside b (omega (arith, inside, long)) ∙ get_or-between c.args.numbers.now at (at + wide) b 0 (omega (arith, inside)) ∙ ap (λ k. slice_index_or c.args.numbers.now (k + b) 0) at_is in
     record {
-      inside = numbers_more size stretch.from stretch.end code row c.args.numbers.now c.rows.pointers pointers good.assignments good.some_places others here old.inside;
-      kept = λ i a i_in inside beside. row_kept size stretch.from stretch.end code row c.rows.pointers pointers good.assignments others i a inside beside good.some_places ∙ old.kept i a i_in inside beside;
-      beside = rest_then old.beside (row_outside size stretch.from stretch.end code row c.rows.pointers pointers good.assignments others stretch.rows in_rows good.some_places c.set_run.ensures.length);
+      inside = numbers_more size stretch.begin stretch.end code row c.args.numbers.now c.rows.pointers pointers good.assignments good.some_places others here old.inside;
+      kept = λ i a i_in inside beside. row_kept size stretch.begin stretch.end code row c.rows.pointers pointers good.assignments others i a inside beside good.some_places ∙ old.kept i a i_in inside beside;
+      beside = rest_then old.beside (row_outside size stretch.begin stretch.end code row c.rows.pointers pointers good.assignments others stretch.rows in_rows good.some_places c.set_run.ensures.length);
     }
 
 -- after the last row

@@ -10,10 +10,10 @@ use Rattle.roster_search.proofs.StretchLaws.{count_short, rows_of, run_refused, 
 use Rattle.roster_search.proofs.labels.set_run.Goals as goal
 
 pub set_rows-requires-clause-rows : goal.set_rows-requires-clause-rows
-set_rows-requires-clause-rows c = transport (λ q. AreRowsIn (sym c.requires.from.shape q) (length c.args.labels.now)) (rows_of c.requires.from.of_day c.requires.lengths.labels_length)
+set_rows-requires-clause-rows c = transport (λ q. AreRowsIn (sym c.requires.here.shape q) (length c.args.labels.now)) (rows_of c.requires.here.of_day c.requires.lengths.labels_length)
 
 pub set_rows-requires-clause-short : goal.set_rows-requires-clause-short
-set_rows-requires-clause-short c = omega (arith, count_short c.requires.from.of_day, c.requires.lengths.labels_length)
+set_rows-requires-clause-short c = omega (arith, count_short c.requires.here.of_day, c.requires.lengths.labels_length)
 
 pub set_rows-requires-clause-numbers : goal.set_rows-requires-clause-numbers
 set_rows-requires-clause-numbers c = c.requires.lengths.numbers_length ∙ sym c.requires.lengths.labels_length
@@ -29,7 +29,7 @@ pub returns-clause-least : goal.returns-clause-least
 returns-clause-least c _ =
     let first = c.in-Some.by.0 in
     let count = length c.args.labels.now in
-    let shape = c.requires.from.shape in
+    let shape = c.requires.here.shape in
     let others = between first (first + count) c.args.day.now.later.now in
     let numbers = transport (λ q. RowCells (shape q) (λ j number. number ≡ c.args.place) c.set_rows.new.numbers) c.set_rows.ensures.numbers in
     let labels = transport (λ q. RowCells (shape q) (λ j label. label ≡ min (raised others c.in-Some.by.1 j) no_row) c.set_rows.new.labels) c.set_rows.ensures.labels in
@@ -46,4 +46,4 @@ returns-clause-least c _ =
 pub returns-in_default-clause-none : goal.returns-in_default-clause-none
 returns-in_default-clause-none c _ =
     let count = length c.args.labels.now in
-    run_refused c.args.day.now c.args.from.now.stretch c.args.place c.requires.place (c.in_default.ensures.none refl) (replicate count no_row) (replicate count 0) c.requires.none
+    run_refused c.args.day.now c.args.here.now.stretch c.args.place c.requires.place (c.in_default.ensures.none refl) (replicate count no_row) (replicate count 0) c.requires.none

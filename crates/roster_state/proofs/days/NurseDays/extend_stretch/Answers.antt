@@ -11,7 +11,7 @@ returns-clause-steps c i b in_rows in_places =
     let n = c.args.self.now.nurse in
     let stretch = c.args.stretch.now in
     ap (option_map (moved_on i b)) (c.step.ensures.step ∙ ap (λ (s : Summary). step_of k n c.args.day s c.args.shift) c.state-first.ensures)
-    ∙ step_alike k n c.args.day stretch.block stretch.rows stretch.from stretch.end c.requires.alike i b in_rows in_places (omega (arith, c.requires.places)) c.args.shift
+    ∙ step_alike k n c.args.day stretch.block stretch.rows stretch.begin stretch.end c.requires.alike i b in_rows in_places (omega (arith, c.requires.places)) c.args.shift
 
 pub overflow_cast-stretch-2 : goal.overflow_cast-stretch-2
 overflow_cast-stretch-2 c =
