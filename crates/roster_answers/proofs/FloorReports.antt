@@ -5,7 +5,7 @@ use Rattle.roster_instance.specs.Meaning.{Meaning}
 use Rattle.roster_instance.specs.Rosters.{Rows}
 use Rattle.roster_bound.specs.declared.effort.Effort.{Effort}
 use Rattle.roster_bound.specs.Floors.{FloorLine, IsFloorLog, last_line, no_line}
-use Rattle.roster_bound.specs.Worths.{IsLowerBound}
+use Rattle.roster_worths.specs.Worths.{IsLowerBound}
 use Rattle.roster_answers.specs.Answer.{IsBoundReport, bound_report}
 
 module _ (effort : Effort) (from : ℕ) (c : Meaning) (r : Rows) where

@@ -3,3 +3,4 @@ pub mod AnswerLemmas
 pub mod BestLemmas
 pub mod BoundLemmas
 pub mod AskedLemmas
+pub mod WhoLemmas

@@ -1,5 +1,5 @@
 -- What a command answers: its devices, how it ends, its report, and what is left of the report's texts.
-use Rattle.std.specs.Prelude.{◌≡◌, ◌≢◌, ℕ, ◌/◌, ◌%◌, ◌≤◌, ◌⊎◌, ◌++◌, Bool, true, false, List, [], IfSome, Ok, Err, Option, None, Some, Result, codes, decimal, if◌then◌else◌, is_some, length, map, option_and_then, option_map, unwrap_or}
+use Rattle.std.specs.Prelude.{◌≡◌, ◌≢◌, ℕ, ◌/◌, ◌%◌, ◌≤◌, ◌⊎◌, ◌++◌, Bool, true, false, List, [], IfSome, Ok, Err, Option, None, Some, Result, codes, decimal, flat_map, if◌then◌else◌, is_some, length, map, nat_lt, option_and_then, option_map, unwrap_or}
 use Rattle.std.specs.Borrow.{Bor}
 use Rattle.std.specs.List.{range_with_len}
 use Rattle.std.specs.Option.{option_or}
@@ -17,12 +17,13 @@ use Rattle.roster_rules.specs.AllowedRows.{best_row}
 use Rattle.roster_instance.specs.Bundles.{meaning_of, rows_of}
 use Rattle.roster_instance.specs.Faults.{first_fault}
 use Rattle.roster_rules.specs.HardRules.{hard_faults}
-use Rattle.roster_instance.specs.Meaning.{Meaning, day_count, keeping, shift_at, skill_at}
+use Rattle.roster_instance.specs.Meaning.{Meaning, day_count, keeping, nurse_name, shift_at, skill_at}
 use Rattle.roster_instance.specs.Names.{find_name}
 use Rattle.roster_rules.specs.Penalties.{costs_of, penalty}
 use Rattle.roster_instance.specs.Refusals.{all_faults}
 use Rattle.roster_instance.specs.Rosters.{Rows, fits_case, with_row}
 use Rattle.roster_case.specs.Shown.{weeks_text}
+use Rattle.roster_costs.specs.Unmendable.{unmendable}
 use Rattle.roster_instance.specs.declared.fault.CaseFault.{CaseFault}
 use Rattle.roster_instance.specs.declared.fault.CaseFault.TheVariants.{Memory}
 use Rattle.roster_rules.specs.declared.fault.HardFault.{HardFault}
@@ -30,9 +31,11 @@ use Rattle.roster_rules.specs.Improver.{log_of, run}
 use Rattle.roster_rounds.specs.RunLogs.{text_of}
 use Rattle.roster_bound.specs.declared.effort.Effort.{Effort}
 use Rattle.roster_bound.specs.Floors.{FloorLine, IsFloorLog, floor_text, last_line, no_line}
-use Rattle.roster_bound.specs.Worths.{IsLowerBound}
+use Rattle.roster_worths.specs.Worths.{IsLowerBound}
+use Rattle.roster_who.specs.Who.{AreInOrder, missed as missed_of, takers, without_absent_work}
 use Rattle.roster_who.specs.declared.asked.Asked.{Asked}
-use Rattle.roster_reports.specs.Lines.{Text, bound_text, costs_text, nurse_of}
+use Rattle.roster_who.specs.declared.taker.Taker.{Taker}
+use Rattle.roster_reports.specs.Lines.{Text, bound_text, costs_text, nurse_of, taker_line}
 use Rattle.roster_answers.specs.Lines.{IsFirstBreach, best_log, fault_line}
 use Rattle.roster_answers.specs.declared.fault.Fault.{Fault}
 use Rattle.roster_answers.specs.declared.fault.Fault.TheVariants as fault
@@ -264,10 +267,30 @@ unknown_asked c names =
     option_or (unknown_among thing.Day (day_names c) names.day)
     (option_or (unknown_among thing.Shift c.shift_names names.shift) (option_and_then (unknown_among thing.Skill c.skill_names) names.skill))
 
+-- a line for each who may take an assignment, with how many nurses are still missed where the roster misses some
+abbrev pub who_line : Meaning → ℕ → Taker → Text
+who_line c missed t = taker_line (nurse_name c t.nurse) t.penalty t.changed (if nat_lt 0 missed then Some t.missed else None)
+
+abbrev pub who_text : Meaning → ℕ → List Taker → Text
+who_text c missed listed = flat_map (who_line c missed) listed
+
+abbrev pub who_report : AskedNames → (from : ℕ) → List Taker → Meaning → Rows → Report
+who_report names from listed c r =
+    record (plain (who_text c (missed_of c (without_absent_work c r)) listed)) { is_held = true; broken = unmendable c from r; unknown = unknown_asked c names }
+
+-- it is of all who may take it, in order; what absent nurses work in the roster doesn't count
+pub record IsWhoReport (names : AskedNames) (from : ℕ) (c : Meaning) (r : Rows) (p : Report) : Type 0 where
+  pub listed : List Taker
+  pub in_order : AreInOrder (takers c from (without_absent_work c r) (asked_by c names)) listed
+  pub is : p ≡ who_report names from listed c r
+
 -- ---- the same of an instance that was read
 
 abbrev pub IsBoundFor : Effort → (from : ℕ) → Instance → Report → Type 0
 IsBoundFor effort from instance p = IsBoundReport effort from instance.case instance.roster p
+
+abbrev pub IsWhoFor : AskedNames → (from : ℕ) → Instance → Report → Type 0
+IsWhoFor names from instance p = IsWhoReport names from instance.case instance.roster p
 
 -- ---- what is refused
 

@@ -15,7 +15,7 @@ use crate::instance::Instance;
 use crate::weeks::show_weeks;
 use roster_case::{Held, first_hard};
 use roster_instance::Case;
-use roster_partial::Workspace;
+use roster_offers::{RowTables, Workspace};
 use roster_reports::names_of;
 use roster_rounds::search_has_room;
 use roster_row::best_row;
@@ -26,7 +26,7 @@ use std::io::Write;
 
 /// Writes the weeks of an instance with the best row of the nurse of this name from a week on put in, also where it isn't cheaper.
 /// What the roster costs before and with it goes to the log first. No memory is asked for before it is known whose row it is.
-pub fn report_best<'a, Out: Write, Log: Write>(
+pub fn report_best<'a, T: RowTables, Out: Write, Log: Write>(
     alloc: Global,
     name: &'a [u8],
     from: u16,
@@ -49,7 +49,7 @@ pub fn report_best<'a, Out: Write, Log: Write>(
     };
     let mut meter = Meter::new(&mut instance.case);
     let mut held = hold(alloc, source, instance)?;
-    let Ok(mut workspace) = Workspace::for_case(alloc, held.case()) else {
+    let Ok(mut workspace) = Workspace::<T>::for_case(alloc, held.case()) else {
         return Err(Fault::Workspace);
     };
     search_has_room(held.case(), nurse);
@@ -69,12 +69,12 @@ pub fn report_best<'a, Out: Write, Log: Write>(
 
 /// Puts the best row of a nurse from a week on in. What the roster costs is logged before the search begins, and what it costs with
 /// the row after it. The fault is the log's.
-fn put_best_row<Log: Write>(
+fn put_best_row<T: RowTables, Log: Write>(
     held: &mut Held,
     name: &[u8],
     nurse: usize,
     from: u16,
-    workspace: &mut Workspace,
+    workspace: &mut Workspace<T>,
     meter: &mut Meter,
     log: &mut Watch<Log>,
 ) -> Result<(), WriteFault>

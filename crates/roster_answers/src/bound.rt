@@ -12,7 +12,7 @@ use crate::instance::Instance;
 use roster_bound::{BoundSpace, Effort, raise_floor};
 use roster_instance::Case;
 use roster_log::LogFault;
-use roster_partial::PartialTables;
+use roster_offers::RowTables;
 use roster_reports::write_bound;
 use roster_rounds::extensions_are_few;
 use roster_state::Meter;
@@ -22,7 +22,7 @@ use std::io::Write;
 
 /// Writes what the roster of an instance costs, and the last of the floors that rise with such an effort, under each roster that keeps
 /// the hard rules and the frozen days. The floors go to the log first, line by line as they are found.
-pub fn report_bound<'a, Out: Write, Log: Write>(
+pub fn report_bound<'a, T: RowTables, Out: Write, Log: Write>(
     alloc: Global,
     effort: Effort,
     from: u16,
@@ -37,8 +37,7 @@ pub fn report_bound<'a, Out: Write, Log: Write>(
 {
     let mut meter = Meter::new(&mut instance.case);
     let held = hold(alloc, source, instance)?;
-    let Ok(mut space) = BoundSpace::<PartialTables>::for_case(alloc, held.case(), effort.nodes)
-    else {
+    let Ok(mut space) = BoundSpace::<T>::for_case(alloc, held.case(), effort.nodes) else {
         return Err(Fault::Workspace);
     };
     effort_has_room(held.case(), effort);

@@ -7,7 +7,7 @@ use crate::held::hold;
 use crate::instance::Instance;
 use crate::weeks::show_weeks;
 use roster_log::LogFault;
-use roster_partial::PartialTables;
+use roster_offers::RowTables;
 use roster_rounds::{RunSpace, improve, rounds_have_room};
 use roster_state::Meter;
 use roster_text::Watch;
@@ -16,7 +16,7 @@ use std::io::Write;
 
 /// Writes the weeks of an instance after a run of at most so many rounds from a week on. The run's log goes to the log first, line by
 /// line as it is made.
-pub fn report_improve<'a, Out: Write, Log: Write>(
+pub fn report_improve<'a, T: RowTables, Out: Write, Log: Write>(
     alloc: Global,
     rounds: u16,
     from: u16,
@@ -33,7 +33,7 @@ pub fn report_improve<'a, Out: Write, Log: Write>(
 {
     let mut meter = Meter::new(&mut instance.case);
     let mut held = hold(alloc, source, instance)?;
-    let Ok(mut workspace) = RunSpace::<PartialTables>::for_case(alloc, held.case()) else {
+    let Ok(mut workspace) = RunSpace::<T>::for_case(alloc, held.case()) else {
         return Err(Fault::Workspace);
     };
     rounds_have_room(held.case(), rounds);

@@ -1,5 +1,5 @@
-//! What a command answers, but for those that polish, plan or look for a nurse: how the bytes of an input are read, what each of these
-//! commands writes, and how a fault is told.
+//! What a command answers, but for those that polish or plan: how the bytes of an input are read, what each of these commands writes, by
+//! whatever tables it searches, and how a fault is told.
 //!
 //! The reports, the outcomes, and what a run leaves for each of these are defined in `specs/Answer.antt`; the lines of faults, of the log
 //! of `best`, and the statuses in `specs/Lines.antt`. `refuse` and `refuse_output` promise the line and the status of a fault outside of
@@ -17,6 +17,7 @@ mod instance;
 mod lines;
 mod reading;
 mod weeks;
+mod who;
 
 pub use asked::{Asking, Unknown, asked_by};
 pub use best::report_best;
@@ -29,3 +30,4 @@ pub use instance::Instance;
 pub use lines::{refuse, refuse_output, tell};
 pub use reading::{keep_roster, read_instance};
 pub use weeks::show_weeks;
+pub use who::report_who;

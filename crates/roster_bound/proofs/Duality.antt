@@ -1,31 +1,27 @@
 -- What the places pay is what the nurses earn: so the least costs together are at most the penalty.
-use Rattle.std.proofs.Common.{◌≡◌, ◌∙◌, ◌+◌, ◌-◌, ◌*◌, ◌/◌, ◌%◌, ◌||◌, ◌<◌, ◌≤◌, ◌&&◌, ◌==◌, ℕ, zero, suc, Bool, true, false, not, ap, arith, refl, sym, [], length, nat_lt, Contains, mul-add, if◌then◌else◌}
+use Rattle.std.proofs.Common.{◌≡◌, ◌+◌, ◌-◌, ◌*◌, ◌/◌, ◌%◌, ◌<◌, ◌≤◌, ◌&&◌, ◌==◌, ℕ, zero, suc, Bool, true, false, not, ap, arith, refl, [], length, nat_lt, mul-add, if◌then◌else◌}
 use Rattle.std.specs.List.{list_all}
-use Rattle.std.proofs.lemmas.Bool.{and_from, and_parts, eqb-true}
+use Rattle.std.proofs.lemmas.Bool.{and_parts, eqb-true}
 use Rattle.roster_instance.specs.declared.choice.Choice.{Choice}
 use Rattle.roster_instance.specs.declared.choice.Choice.TheVariants.{Off, Work}
-use Rattle.roster_instance.specs.Choices.{all_choices, all_rows, days_of, same_choice, shift_of}
+use Rattle.roster_instance.specs.Choices.{days_of, same_choice, shift_of}
 use Rattle.roster_instance.specs.Counting.{all_below, one_if, sum_below}
-use Rattle.roster_rules.specs.HardRules.{keeps_absences, keeps_hard, keeps_skills, keeps_successions}
+use Rattle.roster_rules.specs.HardRules.{keeps_hard}
 use Rattle.roster_instance.specs.Meaning.{Meaning, day_count, minimum, nurse_count, optimum, shift_at, shift_count, skill_at, skill_count}
-use Rattle.roster_rules.specs.AllowedRows.{is_frozen, keeps_frozen_day, keeps_frozen_days}
 use Rattle.roster_rules.specs.Penalties.{nurse_cost, penalty, request_cost_on, staffing_cost}
 use Rattle.roster_instance.specs.Rosters.{Row, Rows, choice_on, cover, days_of_nurse, fits_case, is_row_of, row_of}
 use Rattle.roster_rules.specs.Weights.{staffing_weight}
-use Rattle.roster_instance.proofs.RosterFacts.{row-length, row_fits}
+use Rattle.roster_instance.proofs.RosterFacts.{row-length}
 use Rattle.roster_rules.proofs.RunSums.{sum_zero, sum_same}
 use Rattle.roster_laws.specs.Staffing.{meets}
-use Rattle.roster_laws.proofs.AllRows.{row_is_member}
-use Rattle.roster_laws.proofs.Allowed.{member_is_kept}
 use Rattle.roster_laws.specs.FrozenDays.{FrozenDaysStay}
 use Rattle.roster_rules.proofs.RunBounds.{sum_both}
-use Rattle.roster_laws.proofs.Below.{all_elim, all_true}
+use Rattle.roster_laws.proofs.Below.{all_elim}
 use Rattle.roster_laws.proofs.Fives.{five_is}
-use Rattle.roster_laws.proofs.SameRows.{same_choice_self}
-use Rattle.roster_laws.proofs.Keeps.{keeps_hard-parts}
 use Rattle.roster_laws.proofs.OneRow.{penalty-parts, requests_of_row}
 use Rattle.roster_places.specs.Places.{AreWorths, PlaceWorths, earned, most_worth, place_floor, places_floor}
-use Rattle.roster_bound.specs.Worths.{IsLowerBound, bound_by, can_work, own_rows, price_by, rounded_up, row_cost_by, row_floor, with_floors}
+use Rattle.roster_worths.specs.Worths.{IsLowerBound, bound_by, own_rows, price_by, rounded_up, row_cost_by, row_floor, with_floors}
+use Rattle.roster_worths.proofs.OwnRows.{among, two_rules}
 use Rattle.roster_bound.proofs.LeastCosts.{least_below, place_least}
 use Rattle.roster_bound.proofs.Sums.{count_by_place, over_places, places_both, places_le, places_none, sum_le, sum_of_one, sum_same_number}
 
@@ -121,32 +117,15 @@ rounded_below c r b h = go (c.keep % 5 == 0) refl
     go true e = five_below b (penalty c r) h (five_is c (eqb-true (c.keep % 5) 0 e) r)
     go false e = h
 
--- on a frozen day the given choice keeps
-keeps_given : (c : Meaning) (from : ℕ) (given : Rows) (n d : ℕ) (x : Choice) → (is_frozen c from n d ≡ true → x ≡ choice_on (row_of given n) d) → keeps_frozen_day c from given n d x ≡ true
-keeps_given c from given n d x same = go (is_frozen c from n d) refl
-  where
-    go : (b : Bool) → is_frozen c from n d ≡ b → (not b || same_choice x (choice_on (row_of given n) d)) ≡ true
-    go false e = refl
-    go true e = ap (λ y. same_choice y (choice_on (row_of given n) d)) (same e) ∙ same_choice_self (choice_on (row_of given n) d)
-
 module _ (c : Meaning) (from : ℕ) (given : Rows) (w : PlaceWorths) (are : AreWorths w) (r : Rows) (fits : fits_case c r ≡ true) (keeps : keeps_hard c r ≡ true) (stays : FrozenDaysStay c from given r) where
   nurses : length r ≡ nurse_count c
   nurses = eqb-true (length r) (nurse_count c) (and_parts (length r == nurse_count c) (list_all (is_row_of c) r) fits).0
-
-  all_rules : (all_below (day_count c) (λ d. meets c d (cover r d)) && all_below (nurse_count c) (λ n. keeps_successions c n (days_of_nurse r n) (day_count c)) && all_below (nurse_count c) (λ n. keeps_skills c n (row_of r n) (day_count c)) ≡ true) × (all_below (nurse_count c) (λ n. keeps_absences c n (row_of r n) (day_count c)) ≡ true)
-  all_rules = and_parts _ _ (sym (keeps_hard-parts c r) ∙ keeps)
-
-  rules : (all_below (day_count c) (λ d. meets c d (cover r d)) && all_below (nurse_count c) (λ n. keeps_successions c n (days_of_nurse r n) (day_count c)) ≡ true) × (all_below (nurse_count c) (λ n. keeps_skills c n (row_of r n) (day_count c)) ≡ true)
-  rules = and_parts _ _ all_rules.0
-
-  two_rules : (all_below (day_count c) (λ d. meets c d (cover r d)) ≡ true) × (all_below (nurse_count c) (λ n. keeps_successions c n (days_of_nurse r n) (day_count c)) ≡ true)
-  two_rules = and_parts _ _ rules.0
 
   minimum_met : (d s k : ℕ) → d < day_count c → s < shift_count c → k < skill_count c → minimum c d s k ≤ cover r d s k
   minimum_met d s k hd hs hk =
       met (cover r d s k) (minimum c d s k)
       (all_elim (skill_count c) (λ k. not (nat_lt (cover r d s k) (minimum c d s k)))
-      (all_elim (shift_count c) (λ s. all_below (skill_count c) (λ k. not (nat_lt (cover r d s k) (minimum c d s k)))) (all_elim (day_count c) (λ d. meets c d (cover r d)) two_rules.0 d hd) s hs) k hk)
+      (all_elim (shift_count c) (λ s. all_below (skill_count c) (λ k. not (nat_lt (cover r d s k) (minimum c d s k)))) (all_elim (day_count c) (λ d. meets c d (cover r d)) (two_rules c r keeps).0 d hd) s hs) k hk)
 
   -- the places: what is missing and the pay
   places_below : places_floor c w ≤ staffing_cost c r + over_places (day_count c) (shift_count c) (skill_count c) (λ d s k. w d s k * cover r d s k)
@@ -161,24 +140,6 @@ module _ (c : Meaning) (from : ℕ) (given : Rows) (w : PlaceWorths) (are : AreW
         places_le D S K (place_floor c w) (λ d s k. missing d s k + pay d s k) (λ d s k hd hs hk. place_least (w d s k) (minimum c d s k) (optimum c d s k) (cover r d s k) (minimum_met d s k hd hs hk)),
         places_both D S K (λ d s k. missing d s k + pay d s k) missing pay (λ d s k. refl),
       )
-
-  module _ (n : ℕ) (inside : n < nurse_count c) where
-    row : Row
-    row = row_of r n
-
-    frozen_kept : keeps_frozen_days c from given n (row_of r n) ≡ true
-    frozen_kept = all_true (day_count c) (λ d. keeps_frozen_day c from given n d (choice_on (row_of r n) d)) (λ d h. keeps_given c from given n d (choice_on (row_of r n) d) (stays n d h))
-
-    pub worked : can_work c from given n (row_of r n) ≡ true
-    worked =
-        let skills : Bool = keeps_skills c n (row_of r n) (day_count c) in
-        let absences : Bool = keeps_absences c n (row_of r n) (day_count c) in
-        let successions : Bool = keeps_successions c n (days_of_nurse r n) (day_count c) in
-        and_from (skills && absences && successions) (keeps_frozen_days c from given n (row_of r n))
-        (and_from (skills && absences) successions (and_from skills absences (all_elim (nurse_count c) (λ n. keeps_skills c n (row_of r n) (day_count c)) rules.1 n inside) (all_elim (nurse_count c) (λ n. keeps_absences c n (row_of r n) (day_count c)) all_rules.1 n inside)) (all_elim (nurse_count c) (λ n. keeps_successions c n (days_of_nurse r n) (day_count c)) two_rules.1 n inside)) frozen_kept
-
-    pub among : Contains (own_rows c from given n) (row_of r n)
-    among = member_is_kept (can_work c from given n) (all_rows (all_choices c) (day_count c)) (row_of r n) (row_is_member c (row_of r n) (row_fits c r n fits inside)) worked
 
   -- whatever each nurse's row costs at least
   module _ (floor : ℕ → ℕ) (least : (n : ℕ) → n < nurse_count c → floor n ≤ row_cost_by c w n (row_of r n)) where
@@ -219,4 +180,4 @@ pub no_roster_below : (c : Meaning) (from : ℕ) (given : Rows) (w : PlaceWorths
 unfolding bound_by
 no_roster_below c from given w are r fits keeps stays =
     below c from given w are r fits keeps stays (row_floor c from given w)
-    (λ n inside. least_below (row_cost_by c w n) (own_rows c from given n) (row_of r n) (among c from given w are r fits keeps stays n inside))
+    (λ n inside. least_below (row_cost_by c w n) (own_rows c from given n) (row_of r n) (among c from given r fits keeps stays n inside))

@@ -19,7 +19,7 @@ use Rattle.roster_bound.specs.declared.effort.Effort.{Effort}
 use Rattle.roster_bound.specs.declared.effort.Reached.{Reached}
 use Rattle.roster_bound.specs.Floors.{FloorLine, FloorLogStops, HasReached, IsFloorLog, IsRoundBound, RaisesFloor, Rises, floor_line, floor_text, last_line, no_line, rounds_alone}
 use Rattle.roster_places.specs.Places.{AreWorths, PlaceWorths, asks_for_nurses, most_worth}
-use Rattle.roster_bound.specs.Worths.{IsLowerBound, bound_by, first_bound, first_worths}
+use Rattle.roster_worths.specs.Worths.{IsLowerBound, bound_by, first_bound, first_worths}
 use Rattle.roster_bound.proofs.Duality.{no_roster_below}
 
 -- ---- one line more

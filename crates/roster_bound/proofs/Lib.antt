@@ -1,8 +1,6 @@
 pub mod Sums
 pub mod LeastCosts
 pub mod Duality
-pub mod PricedRows
-pub mod RowFloors
 pub mod PartFloors
 pub mod PartLaws
 pub mod Counted

@@ -1,28 +1,19 @@
 -- A floor under the rosters of a part: a row of one of them costs what it costs, since it goes against no decision.
-use Rattle.std.proofs.Common.{◌≡◌, ◌∙◌, ◌+◌, ◌<◌, ◌≤◌, ◌==◌, ◌&&◌, ◌||◌, ℕ, Bool, true, false, not, ap, arith, refl, subst, sym, List, [], ◌∷◌, IsSome, Some, length, if◌then◌else◌}
+use Rattle.std.proofs.Common.{◌≡◌, ◌∙◌, ◌+◌, ◌≤◌, ◌==◌, ◌&&◌, ◌||◌, ℕ, Bool, true, false, not, ap, refl, subst, sym, List, [], ◌∷◌, length, if◌then◌else◌}
 use Rattle.std.proofs.lemmas.Bool.{and_parts, eqb-true}
-use Rattle.arrayvec.specs.ArrayVec.{ArrayVec}
-use Rattle.roster_instance.specs.declared.choice.Choice.{Choice}
-use Rattle.roster_instance.specs.Choices.{days_of, shift_of}
-use Rattle.roster_instance.specs.Limits.{most_keep}
-use Rattle.roster_instance.specs.Meaning.{Meaning, nurse_count}
+use Rattle.roster_instance.specs.Choices.{days_of}
+use Rattle.roster_instance.specs.Meaning.{Meaning}
 use Rattle.roster_instance.specs.Rosters.{Row, Rows, choice_on, row_of}
 use Rattle.roster_rules.specs.Penalties.{own_cost}
-use Rattle.roster_rules.specs.Prefix.{due}
-use Rattle.roster_rules.proofs.Bounds.{request_on-within}
 use Rattle.roster_rules.proofs.RunSums.{sum_same}
-use Rattle.roster_offers.specs.declared.offer.Offer.{Offer}
-use Rattle.roster_offers.specs.Lists.{AreOffers, IsFound, best_over, most_price, offers_on}
 use Rattle.roster_offers.specs.Offers.{row_cost_at}
-use Rattle.roster_bound.specs.declared.decisions.Decision.{Decision}
-use Rattle.roster_bound.specs.Days.{ArePricedOffers}
-use Rattle.roster_bound.specs.Parts.{IsLowerBoundIn, against_price, bound_in, is_against, is_as_decided, is_in_part, price_in, row_floor_in}
+use Rattle.roster_worths.specs.declared.decisions.Decision.{Decision}
+use Rattle.roster_worths.specs.Parts.{IsLowerBoundIn, against_price, bound_in, is_against, is_as_decided, is_in_part, price_in, row_floor_in}
 use Rattle.roster_places.specs.Places.{AreWorths, PlaceWorths}
-use Rattle.roster_bound.specs.Worths.{HasRow, HaveRows, bound_by, cheapest_row, own_rows, price_by, row_cost_by}
-use Rattle.roster_bound.proofs.Duality.{among, below}
+use Rattle.roster_worths.specs.Worths.{bound_by, own_rows, price_by, row_cost_by}
+use Rattle.roster_worths.proofs.OwnRows.{among}
+use Rattle.roster_bound.proofs.Duality.{below}
 use Rattle.roster_bound.proofs.LeastCosts.{least_below}
-use Rattle.roster_bound.proofs.PricedRows.{can_search_priced, cost_is, row_is, some_priced}
-use Rattle.roster_bound.proofs.RowFloors.{named_row}
 
 -- ---- what a roster of the part does goes against no decision
 
@@ -66,33 +57,7 @@ module _ (c : Meaning) (w : PlaceWorths) (part : List Decision) where
   none_below_in from given are r fits keeps stays kept =
       below c from given w are r fits keeps stays (row_floor_in c from given w part)
       (λ n inside. subst (λ m. row_floor_in c from given w part n ≤ m) (cost_kept r n kept)
-      (least_below (row_cost_at c n (price_in c w part n)) (own_rows c from given n) (row_of r n) (among c from given w are r fits keeps stays n inside)))
-
-  -- ---- what the search finds
-
-  low_in : (n : ℕ) → c.keep ≤ most_keep → (d : ℕ) (x : Choice) → price_in c w part n d x ≤ most_price
-  low_in n few d x = go (is_against part n d x)
-    where
-      go : (b : Bool) → (if b then against_price + price_by c w n d x else price_by c w n d x) ≤ most_price
-      go true = omega (arith, request_on-within c n d (shift_of x) few)
-      go false = omega (arith, request_on-within c n d (shift_of x) few)
-
-  module _ (from : ℕ) (given : Rows) (n : ℕ) (rows : ∥ HaveRows c from given ∥₁) (inside : n < nurse_count c) (table : List (ArrayVec Offer)) (are : ArePricedOffers c from given (price_in c w part n) n table) where
-    own : HasRow c from given n
-    own = named_row c from given rows n inside
-
-    pub can_search_in : c.keep ≤ most_keep → AreOffers c n table
-    can_search_in = can_search_priced c from given (price_in c w part n) n (low_in n) own table are
-
-    pub some_in : IsSome (best_over c n (offers_on table))
-    some_in = some_priced c from given (price_in c w part n) n (low_in n) own table are
-
-    module _ (cost : ℕ) (row : Row) (found : IsFound (best_over c n (offers_on table)) cost row) where
-      pub floor_in_is : due c n [] + cost ≡ row_floor_in c from given w part n
-      floor_in_is = cost_is c from given (price_in c w part n) n (low_in n) own table are cost row found
-
-      pub row_in_is : cheapest_row c from given (price_in c w part n) n ≡ Some row
-      row_in_is = row_is c from given (price_in c w part n) n (low_in n) own table are cost row found
+      (least_below (row_cost_at c n (price_in c w part n)) (own_rows c from given n) (row_of r n) (among c from given r fits keeps stays n inside)))
 
 -- the part without decisions
 pub bound_whole : (c : Meaning) (from : ℕ) (given : Rows) (w : PlaceWorths) → bound_in c from given w [] ≡ bound_by c from given w

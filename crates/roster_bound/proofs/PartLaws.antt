@@ -9,11 +9,11 @@ use Rattle.arrayvec.specs.ArrayVec.{ArrayVec}
 use Rattle.roster_instance.specs.Choices.{same_choice}
 use Rattle.roster_instance.specs.Meaning.{Meaning}
 use Rattle.roster_instance.specs.Rosters.{Rows, choice_on, row_of}
-use Rattle.roster_bound.specs.declared.decisions.Decision.{Decision}
+use Rattle.roster_worths.specs.declared.decisions.Decision.{Decision}
 use Rattle.roster_bound.specs.declared.parts.Part.{Part}
 use Rattle.roster_bound.specs.Parting.{ArePartsOf, AreTwoOf, IsWhole}
-use Rattle.roster_bound.specs.Parts.{IsLowerBoundIn, is_as_decided, is_in_part, other_way}
-use Rattle.roster_bound.specs.Worths.{IsLowerBound}
+use Rattle.roster_worths.specs.Parts.{IsLowerBoundIn, is_as_decided, is_in_part, other_way}
+use Rattle.roster_worths.specs.Worths.{IsLowerBound}
 
 -- ---- a decision and the other way round
 

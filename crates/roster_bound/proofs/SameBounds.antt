@@ -16,7 +16,7 @@ use Rattle.roster_rules.specs.Penalties.{own_cost, request_cost_on}
 use Rattle.roster_rules.proofs.RunSums.{sum_same}
 use Rattle.roster_laws.proofs.AllRows.{member_is_row}
 use Rattle.roster_places.specs.Places.{PlaceWorths, SameWorths, earned, most_worth, place_floor, places_floor}
-use Rattle.roster_bound.specs.Worths.{bound_by, can_work, own_rows, price_by, rounded_up, row_cost_by, row_floor}
+use Rattle.roster_worths.specs.Worths.{bound_by, can_work, own_rows, price_by, rounded_up, row_cost_by, row_floor}
 use Rattle.roster_bound.proofs.LeastCosts.{least_cost}
 
 -- ---- the first least member, and what it costs

@@ -10,7 +10,7 @@ use Rattle.roster_log.specs.declared.fault.LogFault.TheVariants.{LogFailed}
 use Rattle.roster_bound.specs.declared.effort.Effort.{Effort}
 use Rattle.roster_bound.specs.declared.effort.Reached.{Reached}
 use Rattle.roster_places.specs.Places.{AreWorths, PlaceWorths}
-use Rattle.roster_bound.specs.Worths.{IsLowerBound, bound_by, first_bound}
+use Rattle.roster_worths.specs.Worths.{IsLowerBound, bound_by, first_bound}
 
 -- a line of the log: a round, and the floor that it reached
 pub record FloorLine : Type 0 where

@@ -1,7 +1,2 @@
-pub mod Worths
-pub mod Days
-pub mod Parts
 pub mod Parting
 pub mod Floors
-pub mod Workspaces
-pub mod Fading

@@ -3,9 +3,9 @@ use Rattle.std.specs.Prelude.{◌≡◌, ℕ, All, true, List, [], ◌∷◌, �
 use Rattle.std.specs.List.{list_any}
 use Rattle.roster_instance.specs.Meaning.{Meaning}
 use Rattle.roster_instance.specs.Rosters.{Rows}
-use Rattle.roster_bound.specs.declared.decisions.Decision.{Decision}
+use Rattle.roster_worths.specs.declared.decisions.Decision.{Decision}
 use Rattle.roster_bound.specs.declared.parts.Part.{Part}
-use Rattle.roster_bound.specs.Parts.{IsLowerBoundIn, is_in_part, other_way}
+use Rattle.roster_worths.specs.Parts.{IsLowerBoundIn, is_in_part, other_way}
 
 -- each roster is in one of them, and the floor of each is one under its rosters
 pub record ArePartsOf (c : Meaning) (from : ℕ) (given : Rows) (parts : List Part) : Type 0 where

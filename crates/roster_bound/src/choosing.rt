@@ -5,16 +5,15 @@ ghost use Rattle.roster_instance.specs.Limits.{most_nurses};
 ghost use Rattle.roster_instance.specs.Meaning.{nurse_count};
 ghost use Rattle.roster_bound.specs.Parting.{AreTwoOf};
 ghost use Rattle.roster_places.specs.Seen.{FitsSeen};
-ghost use Rattle.roster_bound.specs.Workspaces.{FitsFloor};
+ghost use Rattle.roster_worths.specs.Workspaces.{FitsFloor};
 
-use crate::decisions::Decision;
 use crate::known::move_by_known_rows;
 use crate::parts::{Part, Two};
-use crate::workspace::FloorWorkspace;
 use arrayvec::ArrayVec;
 use roster_instance::{Case, Choice, Shift, Skill};
 use roster_offers::RowTables;
 use roster_places::{KEPT, NOWHERE, PARTS, Seen};
+use roster_worths::{Decision, FloorWorkspace};
 
 /// A decision, and how many uses a nurse's rows have with it or without it, whichever is less.
 #[derive(Clone, Copy, Default)]

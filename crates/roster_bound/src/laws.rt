@@ -2,15 +2,12 @@
 
 ghost use Rattle.std.specs.Prelude.{◌≡◌, ◌%◌, ◌⊎◌, ◌++◌, [], ◌∷◌, List, ℕ, true};
 ghost use Rattle.roster_instance.specs.Meaning.{Meaning};
-ghost use Rattle.roster_instance.specs.Rosters.{Rows, fits_case};
-ghost use Rattle.roster_rules.specs.HardRules.{keeps_hard};
+ghost use Rattle.roster_instance.specs.Rosters.{Rows};
 ghost use Rattle.roster_rules.specs.Penalties.{penalty};
-ghost use Rattle.roster_bound.specs.declared.decisions.Decision.{Decision};
-ghost use Rattle.roster_bound.specs.Parts.{IsLowerBoundIn, IsLowerBoundInBoth, is_in_part, other_way};
+ghost use Rattle.roster_worths.specs.declared.decisions.Decision.{Decision};
+ghost use Rattle.roster_worths.specs.Parts.{IsLowerBoundIn, IsLowerBoundInBoth, is_in_part, other_way};
 ghost use Rattle.roster_places.specs.Places.{AreWorths, PlaceWorths};
-ghost use Rattle.roster_bound.specs.Worths.{HaveRows, IsLeast, IsLowerBound, bound_by, rounded_up};
-
-use roster_instance::{Case, Roster};
+ghost use Rattle.roster_worths.specs.Worths.{IsLeast, IsLowerBound, bound_by, rounded_up};
 
 /// Whatever the places pay, what places and nurses cost at least, rounded up to a multiple of 5 where each penalty is one, is a lower bound on the penalty of
 /// each roster that fits the case, keeps the hard rules and agrees with the given one on the frozen days.
@@ -24,13 +21,6 @@ pub fn no_roster_is_below_the_bound()
 pub fn met_bound_is_least()
     ensures { (c : Meaning) (from : ℕ) (given : Rows) (bound : ℕ) (r : Rows) →
         IsLowerBound c from given bound → bound ≡ penalty c r → IsLeast c from given r }
-{}
-
-/// In a roster that keeps the hard rules each nurse has a row that agrees with it on the frozen days: the own.
-pub fn rows_are_had(case: &Case, given: &Roster, from: u16)
-    requires fits { fits_case case.now given.now ≡ true }
-    requires keeps { keeps_hard case.now given.now ≡ true }
-    ensures { HaveRows case.now from given.now }
 {}
 
 /// A bound may be rounded up to the next multiple of 5 where each penalty is one: unless a roster is kept at a number of points that

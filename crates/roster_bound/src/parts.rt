@@ -3,10 +3,10 @@
 ghost use Rattle.std.specs.Prelude.{◌≡◌, ◌<◌, ◌≤◌, ◌++◌, [], ◌∷◌, All, IfSome, if◌then◌else◌, length, set, true};
 ghost use Rattle.roster_bound.specs.Parting.{AreTwoOf, IsWhole};
 
-use crate::decisions::Decision;
 use arrayvec::ArrayVec;
 use roster_instance::Case;
 use roster_places::KEPT;
+use roster_worths::Decision;
 use std::alloc::{AllocError, Global};
 
 /// How many decisions make a part at most. One of so many isn't parted again.

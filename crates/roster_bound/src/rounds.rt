@@ -6,28 +6,23 @@ ghost use Rattle.roster_instance.specs.Meaning.{day_count, nurse_count};
 ghost use Rattle.roster_rules.specs.Penalties.{penalty};
 ghost use Rattle.roster_laws.specs.Greatest.{extensions_in, greatest_extension_count};
 ghost use Rattle.roster_bound.specs.Floors.{FloorLogStops, HasReached, RaisesFloor, rounds_alone, rounds_of};
-ghost use Rattle.roster_bound.specs.Workspaces.{FitsFloor};
 ghost use Rattle.roster_places.specs.Tables.{worths_of};
 ghost use Rattle.roster_places.specs.Places.{AreWorths};
-ghost use Rattle.roster_bound.specs.Worths.{IsLowerBound, bound_by};
+ghost use Rattle.roster_worths.specs.Workspaces.{CountsRound, FitsFloor};
+ghost use Rattle.roster_worths.specs.Worths.{IsLowerBound, bound_by};
 
 use crate::effort::{Effort, Reached};
 use crate::floors::lower_bound;
-use crate::known::count_known_rows;
-use crate::offers::{Base, Terms, Under};
 use crate::tree::{BoundSpace, part_least};
-use crate::workspace::FloorWorkspace;
+use crate::under::Under;
 use roster_case::Held;
-use roster_instance::Case;
 use roster_log::{LogFault, log_round, log_start};
 use roster_offers::RowTables;
-use roster_places::{Pace, Step, climb, farthest, learn};
+use roster_places::Pace;
 use roster_state::Meter;
 use roster_text::Watch;
+use roster_worths::{Base, FloorWorkspace, MOVES, Terms, prepare_next};
 use std::io::Write;
-
-/// How often worths move between two rounds of searches, where a floor is raised.
-pub const MOVES: u16 = 20;
 
 /// Raises a floor under every roster of a case that keeps the hard rules and has the held one's frozen days, with weeks frozen before
 /// `from`: so many rounds, each by other worths, and then so many partings of the rosters, or fewer where the floor comes to be what the held
@@ -172,36 +167,6 @@ fn make_rounds<W: Write, T: RowTables>(
     Ok(Reached { bound: best, sent })
 }
 
-/// Improves the worths of a workspace as `raise_floor` does, and tells no floor. It makes a search for each nurse in each round, of which
-/// each counts a step for each day at least. It takes no memory.
-pub fn improve_worths<T: RowTables>(
-    base: &Base<'_>,
-    pace: Pace,
-    workspace: &mut FloorWorkspace<T>,
-    meter: &mut Meter,
-)
-    requires fits { FitsFloor base.now.case.now workspace.old }
-    requires room { meter.old + extensions_in base.now.case.now pace.rounds ≤ greatest_u64 }
-    ensures made { meter.old + pace.rounds * (nurse_count base.now.case.now
-        * day_count base.now.case.now) ≤ meter.new }
-    ensures counted { meter.new ≤ meter.old + extensions_in base.now.case.now pace.rounds }
-    ensures fits { FitsFloor base.now.case.now workspace.new }
-{
-    base.case.keeps_limits();
-    workspace.begin(base.case);
-    for rounds_before in 0..pace.rounds {
-        make_round(base, workspace, meter);
-        prepare_next(base.case, rounds_before, pace, false, workspace);
-    }
-}
-
-/// What each place that asks for nurses pays in the first round: as much as a missing nurse costs. Its floor is good at once, but steps
-/// from there hardly move.
-pub(crate) const FIRST: u32 = 30;
-
-/// What it pays in the second, from which the worths move.
-const SECOND: u32 = 15;
-
 /// The floor by the worths of the round. Each nurse's cheapest row is counted, and kept among those that were seen.
 fn make_round<T: RowTables>(
     base: &Base<'_>,
@@ -215,10 +180,7 @@ fn make_round<T: RowTables>(
     ensures worths { AreWorths (worths_of workspace.old.tried) }
     ensures bound { result ≡ bound_by base.now.case.now base.now.from base.now.given.now
         (worths_of workspace.old.tried) }
-    ensures made { meter.old + nurse_count base.now.case.now * day_count base.now.case.now
-        ≤ meter.new }
-    ensures counted { meter.new ≤ meter.old + nurse_count base.now.case.now
-        * greatest_extension_count base.now.case.now }
+    ensures counted { CountsRound base.now.case.now meter.old meter.new }
     ensures fits { FitsFloor base.now.case.now workspace.new }
 {
     workspace.tried.keep_most();
@@ -234,62 +196,4 @@ fn make_round<T: RowTables>(
 /// Whether the worths climb after a round, so many of all having been made before it: in the last fifth.
 fn is_late(made: u16, rounds: u16) -> bool {
     5 * made as u32 >= 4 * rounds as u32
-}
-
-/// Moves the worths after a round, and puts those of the next one: the same, or where they climb, whole points about them.
-fn prepare_next<T: RowTables>(
-    case: &Case,
-    made: u16,
-    pace: Pace,
-    climbs: bool,
-    workspace: &mut FloorWorkspace<T>,
-)
-    requires fits { FitsFloor case.now workspace.old }
-    ensures { FitsFloor case.now workspace.new }
-{
-    move_worths(case, made, pace, workspace);
-    let FloorWorkspace {
-        worths,
-        tried,
-        seen,
-        ..
-    } = workspace;
-    tried.copy(worths);
-    if climbs {
-        climb(case, worths, tried, seen);
-    }
-}
-
-/// Moves the worths after a round, `made` of all rounds having been made before it.
-fn move_worths<T: RowTables>(case: &Case, made: u16, pace: Pace, workspace: &mut FloorWorkspace<T>)
-    requires fits { FitsFloor case.now workspace.old }
-    ensures { FitsFloor case.now workspace.new }
-{
-    if made == 0 {
-        workspace.worths.set_all(case, SECOND);
-        return;
-    }
-    let before = made as u64 * pace.moves as u64;
-    for moves_before in 0..pace.moves {
-        if moves_before > 0 {
-            count_known_rows(case, &[], workspace, &mut []);
-        }
-        let moves = before + moves_before as u64 + 1;
-        move_once(case, Step::after(moves, pace), workspace);
-    }
-}
-
-/// Moves each worth by the rows that are counted, by such a step at most.
-pub(crate) fn move_once<T: RowTables>(case: &Case, step: Step, workspace: &mut FloorWorkspace<T>)
-    requires fits { FitsFloor case.now workspace.old }
-    ensures { FitsFloor case.now workspace.new }
-{
-    let FloorWorkspace {
-        rows,
-        worths,
-        covers,
-        ..
-    } = workspace;
-    learn(case, worths, step, &rows.cover, covers);
-    worths.follow(covers, step, farthest(covers));
 }

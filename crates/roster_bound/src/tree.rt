@@ -6,19 +6,18 @@ ghost use Rattle.roster_instance.specs.Meaning.{nurse_count};
 ghost use Rattle.roster_laws.specs.Greatest.{extensions_in, greatest_extension_count};
 ghost use Rattle.roster_bound.specs.Floors.{part_rounds};
 ghost use Rattle.roster_bound.specs.Parting.{ArePartsOf};
-ghost use Rattle.roster_bound.specs.Parts.{IsLowerBoundIn};
-ghost use Rattle.roster_bound.specs.Workspaces.{FitsFloor};
+ghost use Rattle.roster_worths.specs.Parts.{IsLowerBoundIn};
+ghost use Rattle.roster_worths.specs.Workspaces.{FitsFloor};
 
 use crate::choosing::choose;
-use crate::decisions::Decision;
 use crate::floors::lower_bound_in;
 use crate::known::{move_by_known_rows, move_in_part};
-use crate::offers::{Base, Terms, Under};
 use crate::parts::{Part, Parts};
-use crate::workspace::FloorWorkspace;
+use crate::under::Under;
 use roster_instance::Case;
 use roster_offers::{BestFault, RowTables};
 use roster_state::Meter;
+use roster_worths::{Base, Decision, FloorWorkspace, Terms};
 use std::alloc::Global;
 
 /// The memory of a run that raises a floor.

@@ -8,8 +8,8 @@ use Rattle.roster_text.specs.declared.fault.TextFault.TheVariants as text
 use Rattle.roster_instance.specs.Bundles.{meaning_of, rows_of}
 use Rattle.roster_instance.specs.Meaning.{Meaning, keeping}
 use Rattle.roster_instance.specs.declared.fault.CaseFault.TheVariants as case
-use Rattle.roster_answers.specs.Answer.{AskedNames, Input, IsKeptAt, IsOutcomeOf, Leaves, LeavesLog, CommandEnd, Output, Report, Reports, SpellsInstance, StopsReading, Untouched, asked_by, best_report, bound_report, cost_report, improve_report, plain, roster_of}
-use Rattle.roster_cli.specs.Answer.{Answers, IsAnswer, IsPlanReport, IsPolishReport, IsReportIn, IsUnread, case_for, keep_of, plan_report, polish_report, searches_for, who_report}
+use Rattle.roster_answers.specs.Answer.{Input, IsKeptAt, IsOutcomeOf, Leaves, LeavesLog, CommandEnd, Output, Report, Reports, SpellsInstance, StopsReading, Untouched, best_report, bound_report, cost_report, improve_report, plain, roster_of}
+use Rattle.roster_cli.specs.Answer.{Answers, IsAnswer, IsPlanReport, IsPolishReport, IsReportIn, IsUnread, case_for, keep_of, plan_report, polish_report, searches_for}
 use Rattle.roster_reports.specs.Lines.{Text, sizes_text}
 use Rattle.roster_answers.specs.Lines.{status_of}
 use Rattle.roster_answers.specs.declared.fault.Fault.{Fault}
@@ -22,12 +22,12 @@ use Rattle.roster_case.specs.Shown.{weeks_text}
 use Rattle.roster_bound.proofs.FloorLogs.{some_log}
 use Rattle.roster_rules.specs.Penalties.{penalty}
 use Rattle.roster_laws.proofs.Frozen.{stays_self}
-use Rattle.roster_polish.specs.Plans.{IsPlanned, missing}
+use Rattle.roster_costs.specs.Minimums.{missing}
+use Rattle.roster_polish.specs.Plans.{IsPlanned}
 use Rattle.roster_polish.specs.Polished.{first_run}
 use Rattle.roster_polish.proofs.KickLogs.{unkicked, unkicked_text}
-use Rattle.roster_who.specs.Who.{takers, without_absent_work}
-use Rattle.roster_who.proofs.OrderLemmas.{some_order}
 use Rattle.roster_answers.proofs.FloorReports.{of_floors}
+use Rattle.roster_answers.proofs.WhoLemmas.{some_who}
 
 -- ---- statuses
 
@@ -113,10 +113,7 @@ some_report (command.Best nurse from keep) c r = (best_report (string_bytes nurs
 some_report (command.Improve rounds from keep) c r = (improve_report rounds from c r, refl)
 some_report (command.Bound rounds nodes from keep) c r = let some = some_log c from r (record { rounds = rounds; nodes = nodes }) in (bound_report some.0 c r, of_floors (record { rounds = rounds; nodes = nodes }) from c r some.0 some.1)
 some_report (command.Polish searches seed from alone keep) c r = (kickless from c r, no_kick (searches_for c searches) from alone c r)
-some_report (command.Who day shift skill from) c r =
-    let names : AskedNames = record { day = string_bytes day; shift = string_bytes shift; skill = option_map string_bytes skill } in
-    let some = some_order (takers c from (without_absent_work c r) (asked_by c names)) in
-    (who_report names from some.0 c r, record { listed = some.0; in_order = some.1; is = refl })
+some_report (command.Who day shift skill from) c r = some_who (record { day = string_bytes day; shift = string_bytes shift; skill = option_map string_bytes skill }) from c r
 some_report (command.Plan searches seed from keep) c r = (unplanned from r c r, no_plan (searches_for c searches) from false c r r (λ e. e) (planned_self c from r))
 
 pub refused_reading : {W L : Type 0} (output : Output W) (log : Output L) (command : Command) (source : Text) (f : Fault) → StopsReading source f → Untouched output → Untouched log

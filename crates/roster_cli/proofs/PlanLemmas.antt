@@ -8,7 +8,9 @@ use Rattle.roster_instance.specs.Meaning.{Meaning}
 use Rattle.roster_instance.specs.Rosters.{Rows, fits_case}
 use Rattle.roster_case.specs.Shown.{weeks_text}
 use Rattle.roster_log.specs.declared.fault.LogFault.{LogFault}
-use Rattle.roster_polish.specs.Plans.{IsPlanned, missing, unmendable}
+use Rattle.roster_costs.specs.Unmendable.{unmendable}
+use Rattle.roster_costs.specs.Minimums.{missing}
+use Rattle.roster_polish.specs.Plans.{IsPlanned}
 use Rattle.roster_polish.specs.Polished.{IsPolishing, PolishLogStops, Polishes}
 use Rattle.roster_polish.specs.declared.run.Polished.{Polished}
 use Rattle.roster_answers.specs.Answer.{Output, Reports, StopsOutput, Untouched, outcome_of}

@@ -1,5 +1,5 @@
 -- What a run answers.
-use Rattle.std.specs.Prelude.{◌≡◌, ℕ, ◌*◌, ◌<◌, ◌⊎◌, max, min, Bool, true, false, List, [], IfSome, Option, None, Some, flat_map, if◌then◌else◌, length, nat_lt, option_map, string_bytes}
+use Rattle.std.specs.Prelude.{◌≡◌, ℕ, ◌*◌, ◌<◌, ◌⊎◌, max, min, Bool, true, false, List, [], IfSome, Option, None, Some, length, option_map, string_bytes}
 use Rattle.roster_text.specs.Io.{Watched, one_more}
 use Rattle.roster_bundle.specs.Limits.{most_bytes}
 use Rattle.roster_bundle.specs.declared.bundle.Bundle.{Bundle}
@@ -7,25 +7,25 @@ use Rattle.roster_text.specs.declared.fault.TextFault.TheVariants as text
 use Rattle.roster_instance.specs.Bundles.{meaning_of}
 use Rattle.roster_rules.specs.HardRules.{hard_faults}
 use Rattle.roster_instance.specs.Limits.{most_keep}
-use Rattle.roster_instance.specs.Meaning.{Meaning, keeping, nurse_count, nurse_name}
+use Rattle.roster_instance.specs.Meaning.{Meaning, keeping, nurse_count}
 use Rattle.roster_rules.specs.Penalties.{penalty}
 use Rattle.roster_instance.specs.Rosters.{Rows, fits_case}
 use Rattle.roster_case.specs.Shown.{weeks_text}
 use Rattle.roster_rules.specs.declared.fault.HardFault.{HardFault}
 use Rattle.roster_rounds.specs.PutIn.{IsAccepted}
-use Rattle.roster_polish.specs.Plans.{IsPlanned, missing, unmendable}
+use Rattle.roster_costs.specs.Unmendable.{unmendable}
+use Rattle.roster_costs.specs.Minimums.{missing}
+use Rattle.roster_polish.specs.Plans.{IsPlanned}
 use Rattle.roster_polish.specs.Polished.{IsPolishing}
 use Rattle.roster_polish.specs.declared.run.Course.{Course}
-use Rattle.roster_who.specs.Who.{AreInOrder, missed as missed_of, takers, without_absent_work}
-use Rattle.roster_who.specs.declared.taker.Taker.{Taker}
-use Rattle.roster_reports.specs.Lines.{Text, sizes_text, taker_line}
+use Rattle.roster_reports.specs.Lines.{Text, sizes_text}
 use Rattle.roster_answers.specs.Lines.{IsFirstBreach, output_line, status_of}
 use Rattle.roster_answers.specs.declared.fault.Fault.{Fault}
 use Rattle.roster_answers.specs.declared.fault.Fault.TheVariants as fault
 use Rattle.roster_answers.specs.declared.instance.Instance.{Instance}
 use Rattle.roster_request.specs.declared.request.Command.{Command}
 use Rattle.roster_request.specs.declared.request.Command.TheVariants as command
-use Rattle.roster_answers.specs.Answer.{AskedNames, CommandEnd, HasFault, Input, IsBoundReport, IsRefusedFor, IsTaken, Leaves, LeavesLog, Logs, Output, ReadsAll, Report, SpellsBundle, Tells, Untouched, asked_by, best_report, cost_report, improve_report, plain, roster_of, unknown_asked}
+use Rattle.roster_answers.specs.Answer.{CommandEnd, HasFault, Input, IsBoundReport, IsRefusedFor, IsTaken, IsWhoReport, Leaves, LeavesLog, Logs, Output, ReadsAll, Report, SpellsBundle, Tells, Untouched, best_report, cost_report, improve_report, plain, roster_of}
 
 -- ---- a case and its roster: what a command answers for them
 
@@ -57,23 +57,6 @@ pub record IsPlanReport (searches from : ℕ) (alone : Bool) (c : Meaning) (r : 
   pub told : Text
   pub run : IsAccepted c nearest → IsPolishing c from nearest (missing c r) searches alone settled last told
   pub is : p ≡ plan_report from nearest last told c r
-
--- a line for each who may take an assignment, with how many nurses are still missed where the roster misses some
-abbrev pub who_line : Meaning → ℕ → Taker → Text
-who_line c missed t = taker_line (nurse_name c t.nurse) t.penalty t.changed (if nat_lt 0 missed then Some t.missed else None)
-
-abbrev pub who_text : Meaning → ℕ → List Taker → Text
-who_text c missed listed = flat_map (who_line c missed) listed
-
-abbrev pub who_report : AskedNames → (from : ℕ) → List Taker → Meaning → Rows → Report
-who_report names from listed c r =
-    record (plain (who_text c (missed_of c (without_absent_work c r)) listed)) { is_held = true; broken = unmendable c from r; unknown = unknown_asked c names }
-
--- it is of all who may take it, in order; what absent nurses work in the roster doesn't count
-pub record IsWhoReport (names : AskedNames) (from : ℕ) (c : Meaning) (r : Rows) (p : Report) : Type 0 where
-  pub listed : List Taker
-  pub in_order : AreInOrder (takers c from (without_absent_work c r) (asked_by c names)) listed
-  pub is : p ≡ who_report names from listed c r
 
 -- how many searches a run may make: as many as are asked for, or else 400 for each nurse, and 20,000 at least
 abbrev pub searches_for : Meaning → Option ℕ → ℕ
@@ -119,9 +102,6 @@ IsPolishFor course instance p = IsPolishReport course.searches course.from cours
 
 abbrev pub IsPlanFor : Course → Instance → Report → Type 0
 IsPlanFor course instance p = IsPlanReport course.searches course.from course.kicks_alone instance.case instance.roster p
-
-abbrev pub IsWhoFor : AskedNames → (from : ℕ) → Instance → Report → Type 0
-IsWhoFor names from instance p = IsWhoReport names from instance.case instance.roster p
 
 -- ---- what is refused
 

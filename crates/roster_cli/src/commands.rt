@@ -7,13 +7,13 @@ ghost use Rattle.roster_cli.specs.Answer.{IsReportFor, keep_of, searches_for};
 
 use crate::plan::report_plan;
 use crate::polish::report_polish;
-use crate::who::report_who;
 use roster_answers::{
     Asking, Fault, Instance, report_best, report_bound, report_cost, report_improve, report_sizes,
-    show_weeks,
+    report_who, show_weeks,
 };
 use roster_bound::Effort;
 use roster_instance::Case;
+use roster_partial::PartialTables;
 use roster_polish::Course;
 use roster_request::Command;
 use roster_text::Watch;
@@ -39,7 +39,7 @@ pub(crate) fn report<'a, Out: Write, Log: Write>(
         Command::Cost => report_cost(alloc, source, instance, output),
         Command::Sizes => report_sizes(&instance.case, output),
         Command::Best { nurse, from, .. } => {
-            report_best(
+            report_best::<PartialTables, Out, Log>(
                 alloc,
                 nurse.as_bytes(),
                 *from,
@@ -50,7 +50,9 @@ pub(crate) fn report<'a, Out: Write, Log: Write>(
             )
         }
         Command::Improve { rounds, from, .. } => {
-            report_improve(alloc, *rounds, *from, source, instance, output, log)
+            report_improve::<PartialTables, Out, Log>(
+                alloc, *rounds, *from, source, instance, output, log,
+            )
         }
         Command::Bound {
             rounds,
@@ -62,7 +64,9 @@ pub(crate) fn report<'a, Out: Write, Log: Write>(
                 rounds: *rounds,
                 nodes: *nodes,
             };
-            report_bound(alloc, effort, *from, source, instance, output, log)
+            report_bound::<PartialTables, Out, Log>(
+                alloc, effort, *from, source, instance, output, log,
+            )
         }
         Command::Polish {
             searches,
@@ -100,7 +104,7 @@ pub(crate) fn report<'a, Out: Write, Log: Write>(
             from,
         } => {
             let asking = asking_of(day, shift, skill, *from);
-            report_who(alloc, asking, source, instance, output)
+            report_who::<PartialTables, Out>(alloc, asking, source, instance, output)
         }
     }
 }

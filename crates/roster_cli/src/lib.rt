@@ -13,7 +13,6 @@ mod commands;
 mod plan;
 mod polish;
 mod start;
-mod who;
 
 pub use answer::run;
 pub use roster_answers::refuse;

@@ -8,11 +8,10 @@ ghost use Rattle.roster_cli.specs.Answer.{IsPlanFor, IsUnfound};
 use crate::polish::within_room;
 use roster_answers::{Fault, Instance, hold, show_weeks};
 use roster_case::Held;
+use roster_costs::{first_unmendable, missing};
 use roster_log::LogFault;
 use roster_partial::PartialTables;
-use roster_polish::{
-    Course, PolishSpace, find_roster, first_unmendable, missing, polish_found, searches_have_room,
-};
+use roster_polish::{Course, PolishSpace, find_roster, polish_found, searches_have_room};
 use roster_reports::names_of;
 use roster_state::Meter;
 use roster_text::Watch;

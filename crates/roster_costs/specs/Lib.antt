@@ -1,2 +1,4 @@
 pub mod Kinds
 pub mod Sums
+pub mod Unmendable
+pub mod Minimums

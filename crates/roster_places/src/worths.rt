@@ -6,6 +6,7 @@ ghost use Rattle.roster_places.specs.Tables.{most_fine, parts, worths_of};
 ghost use Rattle.roster_places.specs.Places.{AreWorths, SameWorths, asks_for_nurses, even_worths, most_worth};
 
 use crate::moves::{Covers, Step, Way};
+use crate::places::need_at;
 use roster_instance::{Case, Shift, Skill};
 use std::alloc::{AllocError, Global};
 use std::marker::Model;
@@ -194,9 +195,7 @@ fn asks_for_nurses(case: &Case, place: usize) -> bool
     requires { place < 64 * day_count case.now }
     ensures { result ≡ asks_for_nurses case.now (place / 64) (place % 64 / 8) (place % 8) }
 {
-    case.keeps_limits();
-    let (day, shift, skill) = (place / 64, place % 64 / 8, place % 8);
-    let need = case.need(day as u16, Shift(shift as u8), Skill(skill as u8));
+    let need = need_at(case, place);
     need.minimum > 0 || need.optimum > 0
 }
 

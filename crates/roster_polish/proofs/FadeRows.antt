@@ -20,7 +20,7 @@ use Rattle.roster_laws.proofs.Below.{all_elim}
 use Rattle.roster_laws.proofs.Frozen.{frozen_is}
 use Rattle.roster_laws.proofs.OneRow.{other_row, own_row}
 use Rattle.roster_places.specs.Places.{PlaceWorths}
-use Rattle.roster_bound.specs.Worths.{can_work, floor_row, own_rows, row_cost_by}
+use Rattle.roster_worths.specs.Worths.{can_work, floor_row, own_rows, row_cost_by}
 
 module _ (c : Meaning) (from : ℕ) (given : Rows) (w : PlaceWorths) (n : ℕ) (row : Row) (is : floor_row c from given w n ≡ Some row) where
   among : Contains (own_rows c from given n) row

@@ -23,8 +23,8 @@ use Rattle.roster_instance.proofs.RosterFacts.{row_fits}
 use Rattle.roster_laws.proofs.Allowed.{present_stays}
 use Rattle.roster_laws.proofs.Below.{all_elim, all_true}
 use Rattle.roster_laws.proofs.Keeps.{none_below, none_of_both, none_where_not, not_not}
-use Rattle.roster_bound.specs.Worths.{HaveRows, can_work}
-use Rattle.roster_polish.specs.Plans.{follows_frozen, frozen_absences, frozen_minimums, frozen_successions, unmendable}
+use Rattle.roster_worths.specs.Worths.{HaveRows, can_work}
+use Rattle.roster_costs.specs.Unmendable.{follows_frozen, frozen_absences, frozen_minimums, frozen_successions, unmendable}
 
 -- to be off may follow each shift, and may come before each
 off_follows : (successions : List (Option (List Bool))) (last : Option Shift) → forbids successions last None ≡ false

@@ -6,11 +6,11 @@ use Rattle.roster_instance.specs.Rosters.{Row, Rows, choice_on}
 use Rattle.roster_offers.specs.Offers.{offer_at}
 use Rattle.roster_row.specs.Known.{most_gain, prices_on}
 use Rattle.roster_row.specs.declared.last.LastSearches.{LastSearches}
-use Rattle.roster_bound.specs.Days.{shift_offers_by_worth}
+use Rattle.roster_worths.specs.Days.{shift_offers_by_worth}
 use Rattle.roster_places.specs.Places.{PlaceWorths}
-use Rattle.roster_bound.specs.Worths.{price_by}
+use Rattle.roster_worths.specs.Worths.{price_by}
 use Rattle.roster_laws.specs.FrozenDays.{FrozenDaysStay}
-use Rattle.roster_bound.specs.declared.offers.Base.{Base}
+use Rattle.roster_worths.specs.declared.offers.Base.{Base}
 use Rattle.roster_polish.specs.declared.kick.Kicking.{Kicking}
 use Rattle.roster_polish.specs.declared.space.PolishSpace.{PolishSpace}
 use Rattle.roster_polish.specs.Polished.{FitsPolish}

@@ -10,7 +10,7 @@ use Rattle.roster_offers.specs.declared.offer.Offer.{Offer}
 use Rattle.roster_offers.specs.Offers.{cheapest_by_shift, offers_by}
 use Rattle.roster_offers.specs.Lists.{most_price, offers_on}
 use Rattle.roster_places.specs.Tables.{worths_of}
-use Rattle.roster_bound.specs.Worths.{price_by}
+use Rattle.roster_worths.specs.Worths.{price_by}
 use Rattle.roster_polish.specs.declared.offers.Kick.{Kick}
 
 -- a kick has a worth for each place of the case, and nine numbers for each day

@@ -11,7 +11,7 @@ use Rattle.roster_rules.specs.Improver.{Run, line, round, run, same_rows, start_
 use Rattle.roster_log.specs.declared.fault.LogFault.{LogFault}
 use Rattle.roster_log.specs.declared.fault.LogFault.TheVariants.{LogFailed}
 use Rattle.roster_row.specs.Known.{IsKnown}
-use Rattle.roster_bound.specs.Workspaces.{FitsFloor}
+use Rattle.roster_worths.specs.Workspaces.{FitsFloor}
 use Rattle.roster_polish.specs.declared.run.Polished.{Polished}
 use Rattle.roster_polish.specs.declared.space.PolishSpace.{PolishSpace}
 use Rattle.roster_polish.specs.Settled.{IsSettled}

@@ -17,14 +17,14 @@ use crate::settle::Aim;
 use crate::space::PolishSpace;
 use crate::stay::stay_if_no_dearer;
 use crate::visit::{Turn, visit};
-use roster_bound::{
-    Base, Fading, Terms, WHOLE, follow_cover, lacks_nurses, pay_places, put_row, take_row,
-};
 use roster_case::Held;
 use roster_costs::first_hard;
 use roster_offers::RowTables;
 use roster_places::PARTS;
 use roster_state::Meter;
+use roster_worths::{
+    Base, Fading, Terms, WHOLE, follow_cover, lacks_nurses, pay_places, put_row, take_row,
+};
 
 /// How many passes a fade makes besides where places are below their minimums: two, and two, and two again.
 const MORE_PASSES: u64 = 6;

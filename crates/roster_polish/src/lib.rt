@@ -19,11 +19,9 @@ mod searches;
 mod settle;
 mod space;
 mod stay;
-mod unmendable;
 mod visit;
 
-pub use plan::{find_roster, missing};
+pub use plan::find_roster;
 pub use room::{MOST_SEARCHES, searches_have_room};
 pub use run::{Course, Polished, polish, polish_found};
 pub use space::PolishSpace;
-pub use unmendable::first_unmendable;

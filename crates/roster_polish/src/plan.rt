@@ -2,14 +2,14 @@
 
 ghost use Rattle.std.specs.Prelude.{◌≡◌, ◌+◌, ◌-◌, ◌*◌, ◌^◌, ◌<◌, ◌≤◌, [], false, true, if◌then◌else◌, min, nat_lt};
 ghost use Rattle.roster_bundle.specs.Limits.{greatest_u64};
-ghost use Rattle.roster_instance.specs.Meaning.{day_count, minimum};
 ghost use Rattle.roster_instance.specs.Rosters.{fits_case};
 ghost use Rattle.roster_rules.specs.HardRules.{keeps_hard};
-ghost use Rattle.roster_bound.specs.Worths.{HaveRows};
+ghost use Rattle.roster_worths.specs.Worths.{HaveRows};
 ghost use Rattle.roster_laws.specs.FrozenDays.{FrozenDaysStay};
-ghost use Rattle.roster_laws.specs.Staffing.{lacking};
 ghost use Rattle.roster_polish.specs.Fades.{AreFaded, AreMade};
-ghost use Rattle.roster_polish.specs.Plans.{IsNoFarther, IsPlanned, keeps_rows, missing, missing_before, present, unmendable};
+ghost use Rattle.roster_costs.specs.Minimums.{missing};
+ghost use Rattle.roster_costs.specs.Unmendable.{unmendable};
+ghost use Rattle.roster_polish.specs.Plans.{IsNoFarther, IsPlanned, keeps_rows};
 ghost use Rattle.roster_polish.specs.Polished.{FitsPolish};
 ghost use Rattle.roster_polish.specs.Settled.{Spends, extensions_of};
 ghost use Rattle.roster_polish.specs.Tries.{CanSearch};
@@ -20,12 +20,12 @@ use crate::random::Random;
 use crate::run::{Course, rounds_within};
 use crate::searches::Searches;
 use crate::space::PolishSpace;
-use roster_bound::{Base, Fading, MOVES, WHOLE, improve_worths, lacks_nurses, raise_missed};
-use roster_costs::{first_absent_before, first_hard, first_succession_before};
-use roster_instance::{Case, Choice, Roster, Shift, Skill, choice_on};
+use roster_costs::{first_absent_before, first_hard, first_succession_before, missing};
+use roster_instance::{Case, Roster};
 use roster_offers::RowTables;
 use roster_places::{MOST_WORTH, Pace};
 use roster_state::Meter;
+use roster_worths::{Base, Fading, MOVES, WHOLE, improve_worths, lacks_nurses, raise_missed};
 
 /// How many passes the first fade makes. Each later one makes twice as many as that before.
 const FIRST_PASSES: u64 = 120;
@@ -58,61 +58,6 @@ const MOST_ROUNDS: u32 = 30;
 
 /// Of the searches this part goes into these rounds, at most.
 const ROUNDS_PART: u32 = 4;
-
-/// How many nurses all minimums miss, where absent ones don't count.
-pub fn missing(case: &Case, roster: &Roster) -> u64
-    ensures { result ≡ missing case.now roster.now }
-{
-    missing_before(case, roster, case.days())
-}
-
-/// The same of the first so many days.
-#[tactic(auto, using(roster_rules::proofs::CountLemmas::sum_more))]
-fn missing_before(case: &Case, roster: &Roster, days: u16) -> u64
-    requires { days ≤ day_count case.now }
-    ensures { result ≡ missing_before case.now roster.now days }
-{
-    let mut missing = 0;
-    for day in 0..days {
-        missing += missing_on(case, roster, day) as u64;
-    }
-    missing
-}
-
-/// How many nurses the minimums of a day miss.
-#[tactic(auto, using(roster_rules::proofs::CountLemmas::sum_more))]
-fn missing_on(case: &Case, roster: &Roster, day: u16) -> u32
-    requires { day < day_count case.now }
-    ensures missing { result ≡ lacking case.now (minimum case.now day)
-        (present case.now roster.now day) }
-    ensures within { result ≤ 4194304 }
-{
-    case.keeps_limits();
-    let mut missing = 0;
-    for shift in 0..case.shifts() {
-        for skill in 0..case.skills() {
-            let need = case.need(day, Shift(shift), Skill(skill)).minimum;
-            let have = present(case, roster, day, Shift(shift), Skill(skill));
-            missing += need.saturating_sub(have) as u32;
-        }
-    }
-    missing
-}
-
-/// How many nurses work a shift with a skill on a day, absent ones aside.
-fn present(case: &Case, roster: &Roster, day: u16, shift: Shift, skill: Skill) -> u16
-    ensures { result ≡ present case.now roster.now day shift.0 skill.0 }
-{
-    case.keeps_limits();
-    let mut count = 0;
-    for nurse in 0..case.nurses() {
-        let works = choice_on(roster.row(nurse), day) == Choice::Work(shift, skill);
-        if works && !case.is_absent(nurse, day) {
-            count += 1;
-        }
-    }
-    count
-}
 
 /// Looks for a roster that keeps the hard rules: fades the rows, again and again, in twice as many passes, until they do, or no search
 /// is left. Of the given roster and of those with which its fades end, it then leaves the one in which the minimums miss the fewest

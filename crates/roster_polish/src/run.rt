@@ -16,13 +16,13 @@ use crate::random::Random;
 use crate::searches::Searches;
 use crate::settle::settle_first;
 use crate::space::PolishSpace;
-use roster_bound::{Base, MOVES, improve_worths};
 use roster_case::Held;
 use roster_log::{LogFault, log_start, log_word};
 use roster_offers::RowTables;
 use roster_places::Pace;
 use roster_state::Meter;
 use roster_text::Watch;
+use roster_worths::{Base, MOVES, improve_worths};
 use std::io::Write;
 
 /// How a run is made: how many searches it may take beside those of the first settling, what its random numbers begin with, the week

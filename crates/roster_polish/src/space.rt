@@ -4,12 +4,12 @@ ghost use Rattle.std.specs.Prelude.{◌≡◌, ◌<◌, ◌≤◌, ℕ, All, IfO
 ghost use Rattle.roster_instance.specs.Rosters.{fits_case};
 ghost use Rattle.roster_polish.specs.Polished.{FitsPolish};
 
-use roster_bound::{FloorWorkspace, count_rows};
 use roster_case::Held;
 use roster_instance::{Case, Roster};
 use roster_offers::{BestFault, RowTables};
 use roster_places::Worths;
 use roster_row::LastSearches;
+use roster_worths::{FloorWorkspace, count_rows};
 use std::alloc::Global;
 
 /// What a run writes into: what a run that raises a floor does, with the workspace of its searches; what the last of them tell; by

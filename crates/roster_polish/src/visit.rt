@@ -6,18 +6,18 @@ ghost use Rattle.roster_instance.specs.Meaning.{day_count, nurse_count};
 ghost use Rattle.roster_instance.specs.Rosters.{is_row_of};
 ghost use Rattle.roster_laws.specs.Greatest.{extension_count};
 ghost use Rattle.roster_row.specs.Known.{IsKnown};
-ghost use Rattle.roster_bound.specs.Days.{AreWorthOffers};
+ghost use Rattle.roster_worths.specs.Days.{AreWorthOffers};
 ghost use Rattle.roster_places.specs.Tables.{worths_of};
-ghost use Rattle.roster_bound.specs.Worths.{floor_row};
+ghost use Rattle.roster_worths.specs.Worths.{floor_row};
 ghost use Rattle.roster_offers.specs.Workspaces.{fits_space};
 ghost use Rattle.roster_polish.specs.Fades.{is_left_out};
 
 use arrayvec::ArrayVec;
-use roster_bound::{Terms, offer_days, price_of};
 use roster_instance::{Choice, choice_on};
 use roster_offers::{MOST_OFFERS, Offer, RowTables, Workspace};
 use roster_row::LastSearches;
 use roster_state::Meter;
+use roster_worths::{Terms, offer_days, price_of};
 
 /// A nurse is left out where her row can be no more than so many points cheaper.
 const LEAST_GAIN: u64 = 5;

@@ -1,4 +1,5 @@
 pub mod FirstLeast
+pub mod AllBelow
 pub mod RunSums
 pub mod RunLaw
 pub mod DayMore

@@ -19,7 +19,7 @@ use Rattle.roster_laws.proofs.Allowed.{kept_passes}
 use Rattle.roster_laws.proofs.Below.{all_both, all_elim, all_same}
 use Rattle.roster_laws.proofs.Keeps.{allowed-with_row, keeps_hard-parts}
 use Rattle.roster_laws.proofs.Lacking.{meets-lacking}
-use Rattle.roster_bound.specs.Worths.{can_work}
+use Rattle.roster_worths.specs.Worths.{can_work}
 use Rattle.roster_who.specs.declared.asked.Asked.{Asked}
 use Rattle.roster_who.specs.Offers.{keeps_places}
 use Rattle.roster_who.specs.Who.{cost_with, here_choice, is_asked, is_taking, misses_no_more, missed, taking_rows, without_absent_work}

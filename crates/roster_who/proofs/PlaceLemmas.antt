@@ -11,7 +11,8 @@ use Rattle.roster_instance.specs.Meaning.{Meaning, minimum, nurse_count, shift_a
 use Rattle.roster_instance.specs.Rosters.{Rows, choice_on, cover, fits_case, is_choice_of, row_of}
 use Rattle.roster_laws.specs.OneRow.{others}
 use Rattle.roster_laws.specs.Staffing.{with_choice}
-use Rattle.roster_laws.proofs.Below.{all_fails, all_true}
+use Rattle.roster_rules.proofs.AllBelow.{all_fails}
+use Rattle.roster_laws.proofs.Below.{all_true}
 use Rattle.roster_laws.proofs.OneRow.{cover-with_row}
 use Rattle.roster_laws.proofs.SameRows.{same_choice_is, same_choice_self}
 use Rattle.roster_who.specs.Offers.{is_needed, keeps_places}

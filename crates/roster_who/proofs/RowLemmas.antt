@@ -9,8 +9,8 @@ use Rattle.roster_rules.specs.HardRules.{breaks_succession, is_able_on, is_here_
 use Rattle.roster_laws.proofs.Below.{all_both, all_same}
 use Rattle.roster_laws.proofs.Keeps.{last_two}
 use Rattle.roster_laws.proofs.OneRow.{cover-with_row}
-use Rattle.roster_bound.specs.Days.{can_do}
-use Rattle.roster_bound.specs.Worths.{can_work}
+use Rattle.roster_worths.specs.Days.{can_do}
+use Rattle.roster_worths.specs.Worths.{can_work}
 use Rattle.roster_who.specs.Offers.{keeps_places}
 use Rattle.roster_who.specs.Who.{misses_no_more}
 

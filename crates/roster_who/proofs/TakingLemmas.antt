@@ -41,7 +41,7 @@ use Rattle.roster_offers.proofs.ByShift.{best_by_shift, by_shift_all, by_shift_f
 use Rattle.roster_offers.proofs.Cheapest.{thing_or}
 use Rattle.roster_offers.proofs.ListLaws.{best_over_same}
 use Rattle.roster_offers.proofs.OfferLaws.{offers_few_of}
-use Rattle.roster_bound.specs.Days.{can_do}
+use Rattle.roster_worths.specs.Days.{can_do}
 use Rattle.roster_who.specs.declared.asked.Asked.{Asked}
 use Rattle.roster_who.specs.Offers.{AreTakingOffers, can_take, gain_at, gain_of, gain_with, is_open_for, keeps_places, most_gain, shift_taking_offers, taking_offers, taking_price}
 use Rattle.roster_who.specs.Ways.{last_place, leads_on}

@@ -14,7 +14,7 @@ use Rattle.roster_instance.specs.Meaning.{Meaning, day_count, is_absent, minimum
 use Rattle.roster_instance.specs.Rosters.{Row, Rows, choice_on, cover, row_of, with_row}
 use Rattle.roster_rules.specs.AllowedRows.{allowed_rows, first_least, penalty_with}
 use Rattle.roster_laws.specs.Staffing.{lacking}
-use Rattle.roster_bound.specs.Worths.{can_work}
+use Rattle.roster_worths.specs.Worths.{can_work}
 use Rattle.roster_who.specs.declared.asked.Asked.{Asked}
 use Rattle.roster_who.specs.declared.taker.Taker.{Taker}
 

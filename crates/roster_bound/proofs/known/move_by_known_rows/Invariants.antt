@@ -1,4 +1,4 @@
-use Rattle.roster_bound.specs.Workspaces.{FitsFloor}
+use Rattle.roster_worths.specs.Workspaces.{FitsFloor}
 use Rattle.roster_bound.proofs.known.move_by_known_rows.Given as goal
 
 abbrev pub invariant-loop-made : goal.invariant-loop-made

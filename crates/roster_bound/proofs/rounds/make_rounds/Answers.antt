@@ -6,8 +6,8 @@ use Rattle.roster_instance.specs.Rosters.{Rows}
 use Rattle.roster_laws.proofs.Frozen.{stays_self}
 use Rattle.roster_places.specs.Tables.{WorthTable, worths_of}
 use Rattle.roster_places.specs.Places.{AreWorths, SameWorths}
-use Rattle.roster_bound.specs.Worths.{bound_by, first_worths}
-use Rattle.roster_bound.proofs.Counted.{round_counted, round_room, round_within, rounds_within}
+use Rattle.roster_worths.specs.Worths.{bound_by, first_worths}
+use Rattle.roster_worths.proofs.Counted.{round_counted, round_room, round_within, rounds_within}
 use Rattle.roster_bound.proofs.FloorLogs.{Going-end, Going-met, Going-raised, Going-same, Going-start, Tells, first_text, raised_breaks, start_breaks}
 use Rattle.roster_bound.proofs.SameBounds.{bound_same}
 use Rattle.roster_bound.proofs.rounds.make_rounds.Goals as goal
@@ -61,8 +61,8 @@ loop-rounds_before-preserved g c =
       first = λ none. omega (arith, none);
       below = c.make_round-bound.ensures.below;
       within = c.make_round-bound.ensures.below b.given.now b.fits c.args.under.now.keeps (stays_self b.case.now b.from b.given.now);
-      made = omega (arith, l.invariant.made, c.make_round-bound.ensures.made);
-      counted = round_counted b.case.now l.rounds_before c.args.meter.now l.meter l.invariant.counted c.make_round-bound.new.meter c.make_round-bound.ensures.counted;
+      made = omega (arith, l.invariant.made, c.make_round-bound.ensures.counted.made);
+      counted = round_counted b.case.now l.rounds_before c.args.meter.now l.meter l.invariant.counted c.make_round-bound.new.meter c.make_round-bound.ensures.counted.counted;
       fits = c.prepare_next.ensures;
     }
 
@@ -76,8 +76,8 @@ loop-rounds_before-preserved-then-bound-best g c =
       first = λ none. omega (arith, none);
       below = l.invariant.below;
       within = l.invariant.within;
-      made = omega (arith, l.invariant.made, c.make_round-bound.ensures.made);
-      counted = round_counted b.case.now l.rounds_before c.args.meter.now l.meter l.invariant.counted c.make_round-bound.new.meter c.make_round-bound.ensures.counted;
+      made = omega (arith, l.invariant.made, c.make_round-bound.ensures.counted.made);
+      counted = round_counted b.case.now l.rounds_before c.args.meter.now l.meter l.invariant.counted c.make_round-bound.new.meter c.make_round-bound.ensures.counted.counted;
       fits = c.prepare_next.ensures;
     }
 
@@ -89,7 +89,7 @@ make_round-bound-requires-clause-room g c =
 pub returns-in_err-sent-2-clause-counted : goal.returns-in_err-sent-2-clause-counted
 returns-in_err-sent-2-clause-counted g c =
     let l = c.loop-rounds_before in
-    round_within c.args.under.now.base.now.case.now l.rounds_before c.args.meter.now l.meter l.invariant.counted c.args.rounds c.make_round-bound.new.meter c.loop-rounds_before-test.true c.make_round-bound.ensures.counted
+    round_within c.args.under.now.base.now.case.now l.rounds_before c.args.meter.now l.meter l.invariant.counted c.args.rounds c.make_round-bound.new.meter c.loop-rounds_before-test.true c.make_round-bound.ensures.counted.counted
 
 pub returns-clause-counted : goal.returns-clause-counted
 returns-clause-counted g c =

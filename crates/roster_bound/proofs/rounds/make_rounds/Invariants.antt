@@ -4,9 +4,9 @@ use Rattle.roster_instance.specs.Meaning.{day_count, nurse_count}
 use Rattle.roster_rules.specs.Penalties.{penalty}
 use Rattle.roster_laws.specs.Greatest.{extensions_in}
 use Rattle.roster_places.specs.Tables.{worths_of}
-use Rattle.roster_bound.specs.Workspaces.{FitsFloor}
+use Rattle.roster_worths.specs.Workspaces.{FitsFloor}
 use Rattle.roster_places.specs.Places.{SameWorths}
-use Rattle.roster_bound.specs.Worths.{IsLowerBound, first_worths}
+use Rattle.roster_worths.specs.Worths.{IsLowerBound, first_worths}
 use Rattle.roster_bound.proofs.FloorLogs.{Going}
 use Rattle.roster_bound.proofs.rounds.make_rounds.Given as goal
 

@@ -5,7 +5,7 @@ use Rattle.roster_bound.proofs.Counted.{parting_counted, parting_room, parting_w
 use Rattle.roster_bound.proofs.FloorLogs.{parted_breaks, reached-later, reached-raised, stops-later}
 use Rattle.roster_bound.proofs.PartLaws.{floor_of_all}
 use Rattle.roster_bound.proofs.rounds.raise_under.Goals as goal
-use Rattle.roster_bound.specs.Worths.{IsLowerBound}
+use Rattle.roster_worths.specs.Worths.{IsLowerBound}
 
 pub part_least-is_parted-requires-clause-room : goal.part_least-is_parted-requires-clause-room
 part_least-is_parted-requires-clause-room g c =

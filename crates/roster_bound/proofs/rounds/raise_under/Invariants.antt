@@ -4,8 +4,8 @@ use Rattle.roster_instance.specs.Meaning.{day_count, nurse_count}
 use Rattle.roster_laws.specs.Greatest.{extensions_in}
 use Rattle.roster_bound.specs.Floors.{HasReached, part_rounds}
 use Rattle.roster_bound.specs.Parting.{ArePartsOf}
-use Rattle.roster_bound.specs.Workspaces.{FitsFloor}
-use Rattle.roster_bound.specs.Worths.{IsLowerBound}
+use Rattle.roster_worths.specs.Workspaces.{FitsFloor}
+use Rattle.roster_worths.specs.Worths.{IsLowerBound}
 use Rattle.roster_bound.proofs.rounds.raise_under.Given as goal
 
 abbrev pub invariant-loop-parted : goal.invariant-loop-parted

@@ -1,4 +1,4 @@
-use Rattle.roster_bound.proofs.Counted.{round_room}
+use Rattle.roster_worths.proofs.Counted.{round_room}
 use Rattle.roster_bound.proofs.tree.raise_part.Goals as goal
 
 pub round_in_part-bound-requires-clause-room : goal.round_in_part-bound-requires-clause-room

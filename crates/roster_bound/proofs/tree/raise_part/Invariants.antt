@@ -1,7 +1,7 @@
 use Rattle.std.proofs.Common.{◌≡◌, ◌+◌, ◌≤◌}
 use Rattle.roster_laws.specs.Greatest.{extensions_in}
-use Rattle.roster_bound.specs.Parts.{IsLowerBoundIn}
-use Rattle.roster_bound.specs.Workspaces.{FitsFloor}
+use Rattle.roster_worths.specs.Parts.{IsLowerBoundIn}
+use Rattle.roster_worths.specs.Workspaces.{FitsFloor}
 use Rattle.roster_bound.proofs.tree.raise_part.Given as goal
 
 abbrev pub invariant-loop-made : goal.invariant-loop-made

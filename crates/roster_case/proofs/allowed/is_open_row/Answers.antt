@@ -4,7 +4,7 @@ use Rattle.roster_instance.specs.Meaning.{Meaning, day_count, last_shift, past_o
 use Rattle.roster_rules.proofs.CountLemmas.{shift_of_day}
 use Rattle.roster_rules.proofs.HardLemmas.{shift_before_more}
 use Rattle.roster_case.proofs.AllowedLemmas.{row_day}
-use Rattle.roster_laws.proofs.Below.{all_fails, all_more}
+use Rattle.roster_rules.proofs.AllBelow.{all_fails, all_more}
 use Rattle.roster_case.proofs.allowed.is_open_row.Goals as goal
 
 pub returns-then-not-may_follow : goal.returns-then-not-may_follow

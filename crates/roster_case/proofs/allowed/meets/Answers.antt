@@ -3,7 +3,7 @@ use Rattle.roster_instance.specs.Counting.{all_below}
 use Rattle.roster_instance.specs.Meaning.{Meaning, minimum, shift_count, skill_count}
 use Rattle.roster_laws.specs.OneRow.{others}
 use Rattle.roster_laws.specs.Staffing.{with_choice}
-use Rattle.roster_laws.proofs.Below.{all_fails, all_more}
+use Rattle.roster_rules.proofs.AllBelow.{all_fails, all_more}
 use Rattle.roster_case.proofs.allowed.meets.Goals as goal
 
 pub returns-then-not-meets_at : goal.returns-then-not-meets_at

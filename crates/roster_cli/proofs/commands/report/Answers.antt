@@ -1,7 +1,7 @@
 use Rattle.std.proofs.Common.{ap, false, refl, subst, sym}
 use Rattle.roster_case.specs.Shown.{weeks_text}
-use Rattle.roster_answers.specs.Answer.{Output, best_report, cost_report, improve_report, names_in, outcome_of, plain}
-use Rattle.roster_cli.specs.Answer.{IsPlanReport, IsPolishReport, IsReportIn, IsWhoReport}
+use Rattle.roster_answers.specs.Answer.{IsWhoReport, Output, best_report, cost_report, improve_report, names_in, outcome_of, plain}
+use Rattle.roster_cli.specs.Answer.{IsPlanReport, IsPolishReport, IsReportIn}
 use Rattle.roster_reports.specs.Lines.{sizes_text}
 use Rattle.roster_answers.proofs.AnswerLemmas.{plain_ends, silent_log}
 use Rattle.roster_cli.proofs.commands.report.Goals as goal

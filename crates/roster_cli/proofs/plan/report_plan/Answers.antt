@@ -8,7 +8,9 @@ use Rattle.roster_rules.specs.HardRules.{hard_faults}
 use Rattle.roster_rules.proofs.HardLemmas.{none_of-none}
 use Rattle.roster_instance.specs.Meaning.{Meaning}
 use Rattle.roster_instance.specs.Rosters.{Rows, fits_case}
-use Rattle.roster_polish.specs.Plans.{IsPlanned, missing, unmendable}
+use Rattle.roster_costs.specs.Unmendable.{unmendable}
+use Rattle.roster_costs.specs.Minimums.{missing}
+use Rattle.roster_polish.specs.Plans.{IsPlanned}
 use Rattle.roster_polish.specs.Polished.{PolishLogStops, Polishes}
 use Rattle.roster_polish.specs.declared.run.Course.{Course}
 use Rattle.roster_answers.specs.Answer.{Output, StopsOutput}

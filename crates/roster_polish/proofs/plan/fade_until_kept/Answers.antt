@@ -2,7 +2,8 @@ use Rattle.std.proofs.Common.{◌≡◌, ◌⊎◌, ◌<◌, ◌≤◌, ◌∙�
 use Rattle.std.proofs.lemmas.Bool.{cases_Bool, ltb-false, ltb-true}
 use Rattle.roster_instance.specs.Rosters.{Rows}
 use Rattle.roster_laws.specs.FrozenDays.{FrozenDaysStay}
-use Rattle.roster_polish.specs.Plans.{keeps_rows, missing}
+use Rattle.roster_costs.specs.Minimums.{missing}
+use Rattle.roster_polish.specs.Plans.{keeps_rows}
 use Rattle.roster_polish.proofs.Fading.{made_both}
 use Rattle.roster_polish.proofs.Keeping.{same_days}
 use Rattle.roster_polish.proofs.Steps.{spent_both}

@@ -1,7 +1,8 @@
 use Rattle.std.proofs.Common.{◌≡◌, ◌<◌, ◌≤◌, true}
 use Rattle.roster_laws.specs.FrozenDays.{FrozenDaysStay}
 use Rattle.roster_polish.specs.Fades.{AreMade}
-use Rattle.roster_polish.specs.Plans.{keeps_rows, missing}
+use Rattle.roster_costs.specs.Minimums.{missing}
+use Rattle.roster_polish.specs.Plans.{keeps_rows}
 use Rattle.roster_polish.specs.Polished.{FitsPolish}
 use Rattle.roster_polish.specs.Settled.{Spends}
 use Rattle.roster_polish.proofs.plan.fade_until_kept.Given as goal

@@ -4,7 +4,7 @@ use Rattle.std.proofs.lemmas.Bool.{true≢false}
 use Rattle.roster_instance.specs.Rosters.{Rows}
 use Rattle.roster_rules.specs.HardRules.{keeps_hard}
 use Rattle.roster_laws.specs.FrozenDays.{FrozenDaysStay}
-use Rattle.roster_polish.specs.Plans.{missing}
+use Rattle.roster_costs.specs.Minimums.{missing}
 use Rattle.roster_polish.proofs.Fading.{made_both}
 use Rattle.roster_polish.proofs.FadeRows.{kept_is_none}
 use Rattle.roster_polish.proofs.Keeping.{same_days}

@@ -15,7 +15,7 @@ use Rattle.roster_offers.proofs.ListLaws.{offers_read}
 use Rattle.roster_row.specs.Known.{price_place}
 use Rattle.roster_row.proofs.KnownLaws.{places_fit}
 use Rattle.roster_places.specs.Tables.{worths_of}
-use Rattle.roster_bound.proofs.RowFloors.{can_search}
+use Rattle.roster_worths.proofs.RowFloors.{can_search}
 use Rattle.roster_polish.proofs.visit.is_left_out.Goals as goal
 
 -- a row's choice is one of the case's, and its shift has a price

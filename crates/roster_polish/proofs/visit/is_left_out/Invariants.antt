@@ -3,9 +3,9 @@ use Rattle.roster_instance.specs.Counting.{sum_below}
 use Rattle.roster_instance.specs.Rosters.{choice_on}
 use Rattle.roster_offers.specs.Offers.{offer_at}
 use Rattle.roster_row.specs.Known.{most_gain, prices_on}
-use Rattle.roster_bound.specs.Days.{shift_offers_by_worth}
+use Rattle.roster_worths.specs.Days.{shift_offers_by_worth}
 use Rattle.roster_places.specs.Tables.{worths_of}
-use Rattle.roster_bound.specs.Worths.{price_by}
+use Rattle.roster_worths.specs.Worths.{price_by}
 use Rattle.roster_polish.proofs.visit.is_left_out.Given as goal
 
 abbrev pub invariant-loop-day : goal.invariant-loop-day

@@ -1,7 +1,7 @@
 use Rattle.std.proofs.Common.{◌≡◌, ◌∙◌, subst, sym}
 use Rattle.roster_offers.specs.Lists.{AreOffers}
 use Rattle.roster_places.specs.Tables.{worths_of}
-use Rattle.roster_bound.proofs.RowFloors.{can_search, floor_row_is, some_found}
+use Rattle.roster_worths.proofs.RowFloors.{can_search, floor_row_is, some_found}
 use Rattle.roster_polish.proofs.visit.search_offered.Goals as goal
 use Rattle.roster_polish.proofs.visit.search_offered.Goals.{After-offers}
 

@@ -4,7 +4,7 @@ use Rattle.roster_laws.specs.Greatest.{greatest_extension_count}
 use Rattle.std.proofs.lemmas.Nat.{mul-le}
 use Rattle.roster_who.specs.Who.{taker}
 use Rattle.roster_who.proofs.TakerLemmas.{one_more}
-use Rattle.roster_bound.proofs.Counted.{counted_more, has_room}
+use Rattle.roster_worths.proofs.Counted.{counted_more, has_room}
 use Rattle.roster_who.proofs.taker.all_takers.Goals as goal
 
 pub taker_of-taker-requires-clause-room : goal.taker_of-taker-requires-clause-room

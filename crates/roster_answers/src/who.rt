@@ -1,0 +1,120 @@
+//! The command `who`: who may take a shift.
+
+ghost use Rattle.std.specs.Prelude.{◌≡◌, ◌<◌, All, IfErr, OnErr, OnOk};
+ghost use Rattle.roster_text.specs.Io.{Stops, StopsIn, Writes};
+ghost use Rattle.roster_instance.specs.Meaning.{nurse_count};
+ghost use Rattle.roster_answers.specs.Answer.{EndsBy, IsWhoFor, StopsOutput, names_in, outcome_of, output_of, who_line, who_text};
+
+use crate::asked::{Asking, asked_by};
+use crate::fault::Fault;
+use crate::instance::Instance;
+use roster_costs::first_unmendable;
+use roster_instance::Case;
+use roster_offers::RowTables;
+use roster_reports::{names_of, write_taker};
+use roster_rounds::rounds_have_room;
+use roster_state::Meter;
+use roster_text::{Watch, WriteFault};
+use roster_who::{Taker, Takers, find_takers};
+use std::alloc::Global;
+use std::io::Write;
+
+/// Writes a line for each nurse who may take an assignment, in their order. The roster may break what a plan mends.
+pub fn report_who<'a, T: RowTables, Out: Write>(
+    alloc: Global,
+    asking: Asking<'a>,
+    source: &'a [u8],
+    mut instance: Instance,
+    output: &mut Watch<Out>,
+) -> Result<(), Fault<'a>>
+    ensures { EndsBy (output_of Out.contents output.old output.new)
+        (IsWhoFor (names_in asking.entry) asking.entry.from instance) source.now instance.bundle
+        (outcome_of result) }
+{
+    let mut meter = Meter::new(&mut instance.case);
+    report_takers::<T, Out>(alloc, asking, source, &instance, &mut meter, output)
+}
+
+/// The same with a meter that has counted nothing.
+fn report_takers<'a, T: RowTables, Out: Write>(
+    alloc: Global,
+    asking: Asking<'a>,
+    source: &'a [u8],
+    instance: &Instance,
+    meter: &mut Meter,
+    output: &mut Watch<Out>,
+) -> Result<(), Fault<'a>>
+    requires { meter.old ≡ 0 }
+    ensures { EndsBy (output_of Out.contents output.old output.new)
+        (IsWhoFor (names_in asking.entry) asking.entry.from instance.now) source.now instance.now.bundle
+        (outcome_of result) }
+{
+    let Instance {
+        bundle,
+        case,
+        roster,
+    } = instance;
+    if let Some(fault) = first_unmendable(case, roster, asking.from) {
+        return Err(Fault::Hard(fault, names_of(source, bundle, fault)));
+    }
+    let asked = match asked_by(case, asking) {
+        Ok(asked) => asked,
+        Err(unknown) => return Err(Fault::Unknown(unknown.thing, unknown.name)),
+    };
+    rounds_have_room(case, 1);
+    match find_takers::<T>(alloc, case, roster, asked, asking.from, meter) {
+        Ok(takers) => show_takers(case, &takers, output),
+        Err(_) => Err(Fault::Workspace),
+    }
+}
+
+/// Writes a line for each who may take it. Where that fails, the fault is the output's.
+fn show_takers<'a, Out: Write>(
+    case: &Case,
+    takers: &Takers,
+    output: &mut Watch<Out>,
+) -> Result<(), Fault<'a>>
+    requires nurses { All (λ taker. taker.nurse < nurse_count case.now) takers.now.listed.items }
+    ensures ok { OnOk result (Writes Out.contents output.old output.new
+        (who_text case.now takers.now.missed takers.now.listed.items)) }
+    ensures err { IfErr result (StopsOutput Out.contents output.old output.new
+        (who_text case.now takers.now.missed takers.now.listed.items)) }
+{
+    Ok(write_takers(case, takers, output)?)
+}
+
+fn write_takers<Out: Write>(
+    case: &Case,
+    takers: &Takers,
+    output: &mut Watch<Out>,
+) -> Result<(), WriteFault>
+    requires nurses { All (λ taker. taker.nurse < nurse_count case.now) takers.now.listed.items }
+    ensures ok { OnOk result (Writes Out.contents output.old output.new
+        (who_text case.now takers.now.missed takers.now.listed.items)) }
+    ensures err { OnErr result (Stops Out.contents output.old output.new
+        (who_text case.now takers.now.missed takers.now.listed.items)) }
+{
+    let listed = takers.listed.as_slice();
+    for place in 0..listed.len() {
+        write_line(case, takers.missed, listed[place], output)?;
+    }
+    Ok(())
+}
+
+/// Writes the line of a nurse, with how many are still missed where the roster misses some.
+fn write_line<Out: Write>(
+    case: &Case,
+    missed: u64,
+    taker: Taker,
+    output: &mut Watch<Out>,
+) -> Result<(), WriteFault>
+    requires { taker.nurse < nurse_count case.now }
+    ensures ok { OnOk result (Writes Out.contents output.old output.new
+        (who_line case.now missed taker)) }
+    ensures err { IfErr result (StopsIn Out.contents output.old output.new
+        (who_line case.now missed taker)) }
+{
+    let still = if missed > 0 { Some(taker.missed) } else { None };
+    let name = case.nurse_name(taker.nurse);
+    write_taker(output, name, taker.penalty, taker.changed, still)
+}
