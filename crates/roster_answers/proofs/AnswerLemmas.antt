@@ -1,7 +1,6 @@
 -- What a bundle means, and how a command ends.
 use Rattle.std.proofs.Common.{◌≡◌, ◌∙◌, ◌==◌, [], ℕ, if◌then◌else◌, Err, List, Option, None, Some, Result, Ok, ap, length, refl, subst, sym, true≢false, is_some, false, true, Bool}
 use Rattle.std.specs.Prelude.{IfErr, OnOk}
-use Rattle.std.specs.Borrow.{Bor}
 use Rattle.std.proofs.lemmas.List.{length-map}
 use Rattle.roster_text.specs.Grammar.{Spells}
 use Rattle.roster_text.specs.Io.{Writes}
@@ -13,14 +12,12 @@ use Rattle.roster_instance.specs.Meaning.{Meaning, keeping, week_count}
 use Rattle.roster_instance.specs.Names.{nurse_names, shift_names, skill_names}
 use Rattle.roster_instance.specs.Refusals.{all_faults, case_faults, roster_faults}
 use Rattle.roster_instance.specs.declared.fault.CaseFault.{CaseFault}
-use Rattle.roster_instance.specs.declared.fault.CaseFault.TheVariants as case
 use Rattle.roster_instance.proofs.Sections.{IsFirst-after}
 use Rattle.roster_rules.specs.declared.fault.HardFault.{HardFault}
-use Rattle.roster_answers.specs.Answer.{Ends, IsAllowed, IsUnheld, LeavesLog, Logged, CommandEnd, Output, Report, SpellsInstance, StopsOutput, StopsReading, Untouched, outcome_of, plain}
-use Rattle.roster_reports.specs.Lines.{Text, nurse_of}
+use Rattle.roster_answers.specs.Answer.{Ends, IsAllowed, IsUnheld, LeavesLog, Logged, CommandEnd, Output, Report, StopsOutput, Untouched, outcome_of, plain}
+use Rattle.roster_reports.specs.Lines.{Text}
 use Rattle.roster_answers.specs.declared.fault.Fault.{Fault}
 use Rattle.roster_answers.specs.declared.fault.Fault.TheVariants as fault
-use Rattle.roster_answers.specs.declared.instance.Instance.{Instance}
 use Rattle.roster_instance.specs.Rosters.{Rows, fits_case}
 
 -- ---- a bundle
@@ -37,9 +34,9 @@ pub first_of_roster : (source : Text) (b : Bundle) (c : Meaning) (f : CaseFault)
 first_of_roster source b c f is none first =
     IsFirst-after (case_faults source b) (roster_faults source (meaning_of source b) b) f none (subst (λ m. IsFirst (roster_faults source m b) f) is first)
 
--- ---- an instance, once it is read
+-- ---- a case that keeps a roster
 
--- whatever roster a case keeps, the same rosters fit it
+-- the same rosters fit a case, whatever roster it keeps
 pub fits_kept : (c : Meaning) (rows : Rows) (keep : ℕ) (r : Rows) → fits_case c r ≡ true → fits_case (keeping c rows keep) r ≡ true
 fits_kept c rows keep r fits = go (keep == 0)
   where
@@ -47,82 +44,78 @@ fits_kept c rows keep r fits = go (keep == 0)
     go true = fits
     go false = fits
 
--- want of memory stops a reading, whatever else is so
-pub memory_stops : (source : Text) (i : Instance) (nurse : Bor Text) → SpellsInstance source i → nurse.now ≡ nurse_of source i.bundle case.Memory → StopsReading source (fault.Case case.Memory nurse)
-memory_stops source i nurse says is = record { bundle = i.bundle; spelled = says.spelled; refused = record { first = λ other. absurd (other refl); nurse_is = is } }
-
 -- ---- a command for an instance
 
--- one that is allowed, and whose text is written at last
-pub written_ends : {W X : Type 0} (output : Output W) (p : Report) (source : Text) (b : Bundle) (result : Result X Fault) → IsAllowed p
+-- a command that is allowed, and writes its text last
+pub written_ends : {W X : Type 0} (output : Output W) (p : Report) (c : Meaning) (result : Result X Fault) → IsAllowed p
     → OnOk result (Writes output.contents output.before output.after p.output) → IfErr result (StopsOutput output.contents output.before output.after p.output)
-    → Ends output p source b (outcome_of result)
-written_ends output p source b (Ok x) allowed ok err = record { ends = allowed; left = ok }
-written_ends output p source b (Err (fault.Text f)) allowed ok err = absurd err
-written_ends output p source b (Err (fault.Case f nurse)) allowed ok err = absurd err
-written_ends output p source b (Err (fault.Hard f names)) allowed ok err = absurd err
-written_ends output p source b (Err (fault.Unfound f names)) allowed ok err = absurd err
-written_ends output p source b (Err (fault.Unknown thing name)) allowed ok err = absurd err
-written_ends output p source b (Err fault.Memory) allowed ok err = absurd err
-written_ends output p source b (Err fault.Workspace) allowed ok err = absurd err
-written_ends output p source b (Err fault.Output) allowed ok err = record { ends = allowed; left = err }
-written_ends output p source b (Err fault.Log) allowed ok err = absurd err
+    → Ends output p c (outcome_of result)
+written_ends output p c (Ok x) allowed ok err = record { ends = allowed; left = ok }
+written_ends output p c (Err (fault.Text f)) allowed ok err = absurd err
+written_ends output p c (Err (fault.Case f nurse)) allowed ok err = absurd err
+written_ends output p c (Err (fault.Hard f d)) allowed ok err = absurd err
+written_ends output p c (Err (fault.Unfound f d)) allowed ok err = absurd err
+written_ends output p c (Err (fault.Unknown thing name)) allowed ok err = absurd err
+written_ends output p c (Err fault.Memory) allowed ok err = absurd err
+written_ends output p c (Err fault.Workspace) allowed ok err = absurd err
+written_ends output p c (Err fault.Output) allowed ok err = record { ends = allowed; left = err }
+written_ends output p c (Err fault.Log) allowed ok err = absurd err
 
 -- all of its log was written before
-pub written_log : {W L X : Type 0} (output : Output W) (log : Output L) (told : Option Text) (text : Text) (result : Result X Fault) → Logged log told
-    → IfErr result (StopsOutput output.contents output.before output.after text) → LeavesLog log told (outcome_of result)
-written_log output log told text (Ok x) logged err = logged
-written_log output log told text (Err (fault.Text f)) logged err = absurd err
-written_log output log told text (Err (fault.Case f nurse)) logged err = absurd err
-written_log output log told text (Err (fault.Hard f names)) logged err = absurd err
-written_log output log told text (Err (fault.Unfound f names)) logged err = absurd err
-written_log output log told text (Err (fault.Unknown thing name)) logged err = absurd err
-written_log output log told text (Err fault.Memory) logged err = absurd err
-written_log output log told text (Err fault.Workspace) logged err = absurd err
-written_log output log told text (Err fault.Output) logged err = logged
-written_log output log told text (Err fault.Log) logged err = absurd err
+pub written_log : {W L X : Type 0} (output : Output W) (log : Output L) (log_text : Option Text) (text : Text) (result : Result X Fault) → Logged log log_text
+    → IfErr result (StopsOutput output.contents output.before output.after text) → LeavesLog log log_text (outcome_of result)
+written_log output log log_text text (Ok x) logged err = logged
+written_log output log log_text text (Err (fault.Text f)) logged err = absurd err
+written_log output log log_text text (Err (fault.Case f nurse)) logged err = absurd err
+written_log output log log_text text (Err (fault.Hard f d)) logged err = absurd err
+written_log output log log_text text (Err (fault.Unfound f d)) logged err = absurd err
+written_log output log log_text text (Err (fault.Unknown thing name)) logged err = absurd err
+written_log output log log_text text (Err fault.Memory) logged err = absurd err
+written_log output log log_text text (Err fault.Workspace) logged err = absurd err
+written_log output log log_text text (Err fault.Output) logged err = logged
+written_log output log log_text text (Err fault.Log) logged err = absurd err
 
--- one that only writes a text
-pub plain_ends : {W X : Type 0} (output : Output W) (text source : Text) (b : Bundle) (result : Result X Fault) → OnOk result (Writes output.contents output.before output.after text)
-    → IfErr result (StopsOutput output.contents output.before output.after text) → Ends output (plain text) source b (outcome_of result)
-plain_ends output text source b result ok err = written_ends output (plain text) source b result (record { kept = refl; found = refl; known = refl }) ok err
+-- a command that only writes a text
+pub plain_ends : {W X : Type 0} (output : Output W) (text : Text) (c : Meaning) (result : Result X Fault) → OnOk result (Writes output.contents output.before output.after text)
+    → IfErr result (StopsOutput output.contents output.before output.after text) → Ends output (plain text) c (outcome_of result)
+plain_ends output text c result ok err = written_ends output (plain text) c result (record { kept = refl; found = refl; known = refl }) ok err
 
--- one that tells nothing leaves the log as it was
-pub silent_log : {W L : Type 0} (output : Output W) (log : Output L) (p : Report) (source : Text) (b : Bundle) (outcome : CommandEnd) → p.log ≡ None → Ends output p source b outcome
+-- a command without a log leaves it as it was
+pub silent_log : {W L : Type 0} (output : Output W) (log : Output L) (p : Report) (c : Meaning) (outcome : CommandEnd) → p.log ≡ None → Ends output p c outcome
     → Untouched log → LeavesLog log p.log outcome
-silent_log output log p source b None none e same = rw none same
-silent_log output log p source b (Some (fault.Text f)) none e same = same
-silent_log output log p source b (Some (fault.Case f nurse)) none e same = same
-silent_log output log p source b (Some (fault.Hard f names)) none e same = same
-silent_log output log p source b (Some (fault.Unfound f names)) none e same = same
-silent_log output log p source b (Some (fault.Unknown thing name)) none e same = same
-silent_log output log p source b (Some fault.Memory) none e same = same
-silent_log output log p source b (Some fault.Workspace) none e same = same
-silent_log output log p source b (Some fault.Output) none e same = rw none same
-silent_log output log p source b (Some fault.Log) none e same = absurd (true≢false (sym e.ends.1 ∙ ap is_some none))
+silent_log output log p c None none e same = rw none same
+silent_log output log p c (Some (fault.Text f)) none e same = same
+silent_log output log p c (Some (fault.Case f nurse)) none e same = same
+silent_log output log p c (Some (fault.Hard f d)) none e same = same
+silent_log output log p c (Some (fault.Unfound f d)) none e same = same
+silent_log output log p c (Some (fault.Unknown thing name)) none e same = same
+silent_log output log p c (Some fault.Memory) none e same = same
+silent_log output log p c (Some fault.Workspace) none e same = same
+silent_log output log p c (Some fault.Output) none e same = rw none same
+silent_log output log p c (Some fault.Log) none e same = absurd (true≢false (sym e.ends.1 ∙ ap is_some none))
 
 -- a roster that is not held
-pub unheld_ends : {W : Type 0} (output : Output W) (p : Report) (source : Text) (b : Bundle) (f : Fault) → p.is_held ≡ true → p.unfound ≡ [] → p.unknown ≡ None → IsUnheld source b p.broken f
-    → Untouched output → Ends output p source b (Some f)
-unheld_ends output p source b (fault.Text f) held found known h same = absurd h
-unheld_ends output p source b (fault.Case f nurse) held found known h same = absurd h
-unheld_ends output p source b (fault.Hard f names) held found known h same = record { ends = h; left = same }
-unheld_ends output p source b (fault.Unfound f names) held found known h same = absurd h
-unheld_ends output p source b (fault.Unknown thing name) held found known h same = absurd h
-unheld_ends output p source b fault.Memory held found known h same = record { ends = (record { kept = h; found = found; known = known }, held); left = same }
-unheld_ends output p source b fault.Workspace held found known h same = absurd h
-unheld_ends output p source b fault.Output held found known h same = absurd h
-unheld_ends output p source b fault.Log held found known h same = absurd h
+pub unheld_ends : {W : Type 0} (output : Output W) (p : Report) (c : Meaning) (f : Fault) → p.is_held ≡ true → p.unfound ≡ [] → p.unknown ≡ None → IsUnheld c p.broken f
+    → Untouched output → Ends output p c (Some f)
+unheld_ends output p c (fault.Text f) held found known h same = absurd h
+unheld_ends output p c (fault.Case f nurse) held found known h same = absurd h
+unheld_ends output p c (fault.Hard f d) held found known h same = record { ends = h; left = same }
+unheld_ends output p c (fault.Unfound f d) held found known h same = absurd h
+unheld_ends output p c (fault.Unknown thing name) held found known h same = absurd h
+unheld_ends output p c fault.Memory held found known h same = record { ends = (record { kept = h; found = found; known = known }, held); left = same }
+unheld_ends output p c fault.Workspace held found known h same = absurd h
+unheld_ends output p c fault.Output held found known h same = absurd h
+unheld_ends output p c fault.Log held found known h same = absurd h
 
--- and so the log is as it was
-pub unheld_log : {L : Type 0} (log : Output L) (told : Option Text) (source : Text) (b : Bundle) (broken : List HardFault) (f : Fault) → IsUnheld source b broken f → Untouched log
-    → LeavesLog log told (Some f)
-unheld_log log told source b broken (fault.Text f) h same = absurd h
-unheld_log log told source b broken (fault.Case f nurse) h same = absurd h
-unheld_log log told source b broken (fault.Hard f names) h same = same
-unheld_log log told source b broken (fault.Unfound f names) h same = absurd h
-unheld_log log told source b broken (fault.Unknown thing name) h same = absurd h
-unheld_log log told source b broken fault.Memory h same = same
-unheld_log log told source b broken fault.Workspace h same = absurd h
-unheld_log log told source b broken fault.Output h same = absurd h
-unheld_log log told source b broken fault.Log h same = absurd h
+-- then the log is as it was
+pub unheld_log : {L : Type 0} (log : Output L) (log_text : Option Text) (c : Meaning) (broken : List HardFault) (f : Fault) → IsUnheld c broken f → Untouched log
+    → LeavesLog log log_text (Some f)
+unheld_log log log_text c broken (fault.Text f) h same = absurd h
+unheld_log log log_text c broken (fault.Case f nurse) h same = absurd h
+unheld_log log log_text c broken (fault.Hard f d) h same = same
+unheld_log log log_text c broken (fault.Unfound f d) h same = absurd h
+unheld_log log log_text c broken (fault.Unknown thing name) h same = absurd h
+unheld_log log log_text c broken fault.Memory h same = same
+unheld_log log log_text c broken fault.Workspace h same = absurd h
+unheld_log log log_text c broken fault.Output h same = absurd h
+unheld_log log log_text c broken fault.Log h same = absurd h

@@ -11,7 +11,7 @@ use Rattle.roster_answers.specs.Answer.{AskedNames, day_names, unknown_among, un
 use Rattle.roster_answers.specs.declared.fault.Thing.{Thing}
 use Rattle.roster_answers.specs.declared.fault.Thing.TheVariants as thing
 
--- it is the first that is this text
+-- the number is that of the first name that equals this text
 pub found_at : (names : List Text) (name : Text) (number : ℕ) → number < length names → ((k : ℕ) → k < number → bytes_eq name (slice_index_or names k []) ≡ false) → bytes_eq name (slice_index_or names number []) ≡ true
     → Some number ≡ find_name names name
 found_at names name number inside none is =
@@ -26,14 +26,14 @@ none_found names name none =
 
 -- ---- what is asked for by names
 
--- what isn't found as another thing isn't found
+-- if no thing of a name is found, the name has no number
 is_missing : {A : Type 0} (f : ℕ → A) (o : Option ℕ) → None ≡ option_map f o → is_some o ≡ false
 is_missing f None e = refl
 is_missing f (Some n) e = absurd cc
 
--- whether a name is known
-abbrev told : Thing → Text → Bool → Option (Thing × Text)
-told thing name known = if known then None else Some (thing, name)
+-- the fault of a name, if it isn't known
+abbrev unknown_unless : Thing → Text → Bool → Option (Thing × Text)
+unknown_unless thing name known = if known then None else Some (thing, name)
 
 module _ (c : Meaning) (names : AskedNames) where
   abbrev of_skill : Option (Thing × Text)
@@ -43,11 +43,11 @@ module _ (c : Meaning) (names : AskedNames) where
   of_shift = option_or (unknown_among thing.Shift c.shift_names names.shift) of_skill
 
   pub day_missing : None ≡ find_name (day_names c) names.day → unknown_asked c names ≡ Some (thing.Day, names.day)
-  day_missing e = ap (λ (o : Option ℕ). option_or (told thing.Day names.day (is_some o)) of_shift) (sym e)
+  day_missing e = ap (λ (o : Option ℕ). option_or (unknown_unless thing.Day names.day (is_some o)) of_shift) (sym e)
 
   module _ (d : ℕ) (day : Some d ≡ find_name (day_names c) names.day) where
     day_known : unknown_asked c names ≡ of_shift
-    day_known = ap (λ (o : Option ℕ). option_or (told thing.Day names.day (is_some o)) of_shift) (sym day)
+    day_known = ap (λ (o : Option ℕ). option_or (unknown_unless thing.Day names.day (is_some o)) of_shift) (sym day)
 
     pub shift_missing : None ≡ option_map shift_at (find_name c.shift_names names.shift) → unknown_asked c names ≡ Some (thing.Shift, names.shift)
-    shift_missing e = day_known ∙ ap (λ b. option_or (told thing.Shift names.shift b) of_skill) (is_missing shift_at (find_name c.shift_names names.shift) e)
+    shift_missing e = day_known ∙ ap (λ b. option_or (unknown_unless thing.Shift names.shift b) of_skill) (is_missing shift_at (find_name c.shift_names names.shift) e)

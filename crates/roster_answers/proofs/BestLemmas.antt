@@ -1,4 +1,4 @@
--- The best row that a search finds, and what is told of the search.
+-- The best row that a search finds, and what is logged of the search.
 use Rattle.std.proofs.Common.{◌≡◌, ◌∙◌, [], ℕ, None, Option, Some, ap, if◌then◌else◌, is_some, sym, unwrap_or}
 use Rattle.roster_rules.specs.AllowedRows.{IsBestRow, allowed_rows, penalty_with}
 use Rattle.roster_instance.specs.Meaning.{Meaning}
@@ -11,7 +11,7 @@ use Rattle.roster_answers.specs.declared.fault.Thing.TheVariants as thing
 use Rattle.roster_reports.specs.Lines.{Text}
 
 module _ (c : Meaning) (from : ℕ) (r : Rows) (n : ℕ) (row : Row) (best : IsBestRow c from r n row) where
-  -- it is the one of the definition
+  -- the row is that of the definition
   pub best_put : with_row r n row ≡ with_best c from r n
   best_put = ap (λ o. with_row r n (unwrap_or o [])) (sym (only (penalty_with c r n) (allowed_rows c from r n) row best))
 
@@ -26,6 +26,6 @@ module _ (c : Meaning) (name : Text) (n : ℕ) (found : Some n ≡ find_name c.n
   pub numbered : n ≡ number_of c name
   numbered = ap (λ (o : Option ℕ). unwrap_or o 0) found
 
--- and a name that it doesn't have
+-- a name that the case doesn't have
 pub unknown : (c : Meaning) (name : Text) → find_name c.nurse_names name ≡ None → unknown_in c name ≡ Some (thing.Nurse, name)
 unknown c name none = ap (λ (o : Option ℕ). if is_some o then None else Some (thing.Nurse, name)) none

@@ -1,4 +1,4 @@
-pub mod FloorReports
+pub mod BoundReports
 pub mod AnswerLemmas
 pub mod BestLemmas
 pub mod BoundLemmas

@@ -8,10 +8,9 @@ use Rattle.std.proofs.lemmas.List.Concat.{flat_map-append}
 use Rattle.std.specs.Borrow.{Bor}
 use Rattle.std.specs.Prelude.{IfErr, OnOk}
 use Rattle.roster_text.specs.Io.{Writes}
-use Rattle.roster_bundle.specs.declared.bundle.Bundle.{Bundle}
 use Rattle.roster_instance.specs.Meaning.{Meaning, nurse_count}
 use Rattle.roster_instance.specs.Rosters.{Row, Rows}
-use Rattle.roster_costs.specs.Unmendable.{unmendable}
+use Rattle.roster_costs.specs.Irreparable.{irreparable}
 use Rattle.roster_reports.specs.Lines.{Text}
 use Rattle.roster_who.specs.Who.{AreInOrder, missed, taker, taker_by, takers, taking_row, without_absent_work}
 use Rattle.roster_who.specs.declared.asked.Asked.{Asked}
@@ -24,7 +23,7 @@ use Rattle.roster_answers.specs.declared.fault.Fault.TheVariants as fault
 use Rattle.roster_answers.specs.declared.fault.Thing.{Thing}
 use Rattle.roster_answers.proofs.AnswerLemmas.{written_ends}
 
-module _ {W : Type 0} (names : AskedNames) (from : ℕ) (c : Meaning) (r : Rows) (output : Output W) (source : Text) (b : Bundle) where
+module _ {W : Type 0} (names : AskedNames) (from : ℕ) (c : Meaning) (r : Rows) (output : Output W) where
   abbrev all : List Taker
   all = takers c from (without_absent_work c r) (asked_by c names)
 
@@ -34,41 +33,41 @@ module _ {W : Type 0} (names : AskedNames) (from : ℕ) (c : Meaning) (r : Rows)
   is_report : (listed : List Taker) → AreInOrder all listed → IsWhoReport names from c r (report listed)
   is_report listed are = record { listed = listed; in_order = are; is = refl }
 
-  -- any order, where none is told
+  -- some order, if no line is printed
   some : (listed : List Taker) × AreInOrder all listed
   some = some_order all
 
-  pub who_refused : (f : Fault) → IsFirstBreach source b (unmendable c from r) f → Untouched output → EndsBy output (IsWhoReport names from c r) source b (Some f)
-  who_refused (fault.Hard f told) h same = record { report = report some.0; is = is_report some.0 some.1; ends = record { ends = h; left = same } }
+  pub who_refused : (f : Fault) → IsFirstBreach c (irreparable c from r) f → Untouched output → EndsBy output (IsWhoReport names from c r) c (Some f)
+  who_refused (fault.Hard f d) h same = record { report = report some.0; is = is_report some.0 some.1; ends = record { ends = h; left = same } }
   who_refused (fault.Text f) h same = absurd h
   who_refused (fault.Case f nurse) h same = absurd h
-  who_refused (fault.Unfound f told) h same = absurd h
+  who_refused (fault.Unfound f d) h same = absurd h
   who_refused (fault.Unknown thing name) h same = absurd h
   who_refused fault.Memory h same = absurd h
   who_refused fault.Workspace h same = absurd h
   who_refused fault.Output h same = absurd h
   who_refused fault.Log h same = absurd h
 
-  module _ (kept : unmendable c from r ≡ []) where
-    pub who_unknown : (thing : Thing) (name : Bor Text) → unknown_asked c names ≡ Some (thing, name.now) → Untouched output → EndsBy output (IsWhoReport names from c r) source b (Some (fault.Unknown thing name))
+  module _ (kept : irreparable c from r ≡ []) where
+    pub who_unknown : (thing : Thing) (name : Bor Text) → unknown_asked c names ≡ Some (thing, name.now) → Untouched output → EndsBy output (IsWhoReport names from c r) c (Some (fault.Unknown thing name))
     who_unknown thing name unknown same = record { report = report some.0; is = is_report some.0 some.1; ends = record { ends = (kept, unknown); left = same } }
 
     module _ (known : unknown_asked c names ≡ None) where
-      pub who_roomless : Untouched output → EndsBy output (IsWhoReport names from c r) source b (Some fault.Workspace)
-      who_roomless same = record { report = report some.0; is = is_report some.0 some.1; ends = record { ends = (kept, known, refl); left = same } }
+      pub who_without_memory : Untouched output → EndsBy output (IsWhoReport names from c r) c (Some fault.Workspace)
+      who_without_memory same = record { report = report some.0; is = is_report some.0 some.1; ends = record { ends = (kept, known, refl); left = same } }
 
       pub who_written : {X : Type 0} (listed : List Taker) → AreInOrder all listed → (before : ℕ) → before ≡ missed c (without_absent_work c r) → (result : Result X Fault)
           → OnOk result (Writes output.contents output.before output.after (who_text c before listed)) → IfErr result (StopsOutput output.contents output.before output.after (who_text c before listed))
-          → EndsBy output (IsWhoReport names from c r) source b (outcome_of result)
+          → EndsBy output (IsWhoReport names from c r) c (outcome_of result)
       who_written listed are before is result ok err = record {
         report = report listed;
         is = is_report listed are;
-        ends = written_ends output (report listed) source b result (record { kept = kept; found = refl; known = known })
+        ends = written_ends output (report listed) c result (record { kept = kept; found = refl; known = known })
             (subst (λ m. OnOk result (Writes output.contents output.before output.after (who_text c m listed))) is ok)
             (subst (λ m. IfErr result (StopsOutput output.contents output.before output.after (who_text c m listed))) is err);
       }
 
--- some report, where none is written
+-- some report, if none is written
 pub some_who : (names : AskedNames) (from : ℕ) (c : Meaning) (r : Rows) → (p : Report) × IsWhoReport names from c r p
 some_who names from c r =
     let some = some_order (takers c from (without_absent_work c r) (asked_by c names)) in
@@ -83,7 +82,7 @@ module _ (f : Taker → Text) (xs : List Taker) (i : ℕ) (d : Taker) (inside : 
   pub lines_split : flat_map f xs ≡ (flat_map f (take i xs) ++ f (get_or xs i d)) ++ flat_map f (drop (i + 1) xs)
   lines_split = ap (flat_map f) (sym (take-append-drop (i + 1) xs)) ∙ flat_map-append f (take (i + 1) xs) (drop (i + 1) xs) ∙ ap (λ l. l ++ flat_map f (drop (i + 1) xs)) lines_more
 
--- ---- who is listed is a nurse of the case
+-- ---- each nurse who is listed is a nurse of the case
 
 module _ (c : Meaning) (from : ℕ) (r : Rows) (asked : Asked) where
   IsNurse : Taker → Type 0

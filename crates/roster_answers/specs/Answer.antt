@@ -23,15 +23,15 @@ use Rattle.roster_rules.specs.Penalties.{costs_of, penalty}
 use Rattle.roster_instance.specs.Refusals.{all_faults}
 use Rattle.roster_instance.specs.Rosters.{Rows, fits_case, with_row}
 use Rattle.roster_case.specs.Shown.{weeks_text}
-use Rattle.roster_costs.specs.Unmendable.{unmendable}
+use Rattle.roster_costs.specs.Irreparable.{irreparable}
 use Rattle.roster_instance.specs.declared.fault.CaseFault.{CaseFault}
 use Rattle.roster_instance.specs.declared.fault.CaseFault.TheVariants.{Memory}
 use Rattle.roster_rules.specs.declared.fault.HardFault.{HardFault}
 use Rattle.roster_rules.specs.Improver.{log_of, run}
 use Rattle.roster_rounds.specs.RunLogs.{text_of}
 use Rattle.roster_bound.specs.declared.effort.Effort.{Effort}
-use Rattle.roster_bound.specs.Floors.{FloorLine, IsFloorLog, floor_text, last_line, no_line}
-use Rattle.roster_worths.specs.Worths.{IsLowerBound}
+use Rattle.roster_bound.specs.BoundLogs.{BoundLine, IsBoundLog, bound_log_text, last_line, no_line}
+use Rattle.roster_prices.specs.LowerBounds.{IsLowerBound}
 use Rattle.roster_who.specs.Who.{AreInOrder, missed as missed_of, takers, without_absent_work}
 use Rattle.roster_who.specs.declared.asked.Asked.{Asked}
 use Rattle.roster_who.specs.declared.taker.Taker.{Taker}
@@ -58,7 +58,7 @@ pub record Output (W : Type 0) : Type 0 where
   pub before : Watched W
   pub after : Watched W
 
--- the input of a reader that was so before, and is so after
+-- the input of a reader with this state before, and this one after
 abbrev pub input_of : {R : Type 0} → (R → Option Text) → Watched R → Watched R → Input R
 input_of remaining before after = record { remaining = remaining; before = before; after = after }
 
@@ -73,36 +73,36 @@ pub record ReadsAll {R : Type 0} (input : Input R) (bytes : Text) : Type 0 where
   pub kept : length bytes ≤ most_bytes
   pub failures : input.after.failures ≡ input.before.failures
 
--- nothing was written to it
+-- nothing was written
 abbrev pub Untouched : {W : Type 0} → Output W → Type 0
 Untouched output = output.after ≡ output.before
 
--- the log has all that a command tells of its work, if it tells any
+-- the log has all lines of a command, if the command has a log
 abbrev pub Logged : {L : Type 0} → Output L → Option Text → Type 0
 Logged log None = Untouched log
-Logged log (Some told) = Writes log.contents log.before log.after told
+Logged log (Some log_text) = Writes log.contents log.before log.after log_text
 
--- a write failed inside it
+-- a write failed inside the lines of a command's log
 abbrev pub StopsLog : {L : Type 0} → Output L → Option Text → Type 0
 StopsLog log None = ⊥
-StopsLog log (Some told) = Stops log.contents log.before log.after told
+StopsLog log (Some log_text) = Stops log.contents log.before log.after log_text
 
 -- the log has the line, or a write failed inside it
 abbrev pub Logs : {L : Type 0} → (L → Option (List ℕ)) → Watched L → Watched L → Text → Type 0
 Logs contents old new line = Writes contents old new line ⊎ Stops contents old new line
 
--- a fault is told by its line; where the log itself had failed, nothing more is written
-abbrev pub Tells : {L : Type 0} → (L → Option (List ℕ)) → Watched L → Watched L → Fault → Type 0
-Tells contents old new fault.Log = new ≡ old
-Tells contents old new f = Logs contents old new (fault_line f)
+-- a fault is reported by its line; if the log itself has failed, nothing more is written
+abbrev pub ReportsFault : {L : Type 0} → (L → Option (List ℕ)) → Watched L → Watched L → Fault → Type 0
+ReportsFault contents old new fault.Log = new ≡ old
+ReportsFault contents old new f = Logs contents old new (fault_line f)
 
--- one call of a device more has failed
+-- one more call of a device has failed
 abbrev pub FailsOnce : {W : Type 0} → (old new : Watched W) → Type 0
 FailsOnce old new = new.failures ≡ one_more old.failures
 
--- ---- how a run ends: it is done, or it stops for a fault
+-- ---- how a run ends: it is done, or stops at a fault
 
--- no fault where the run is done, else the fault for which it stops
+-- no fault if the run is done, else the fault at which it stops
 abbrev pub CommandEnd : Type 0
 CommandEnd = Option Fault
 
@@ -111,32 +111,32 @@ abbrev pub outcome_of : {X : Type 0} → Result X Fault → CommandEnd
 outcome_of (Ok x) = None
 outcome_of (Err f) = Some f
 
--- what a run leaves of its text: all, where it is done; some, where the output failed; else none
+-- what a run leaves of its text: all, if it is done; a beginning, if the output failed; else nothing
 abbrev pub Leaves : {W : Type 0} → Output W → Text → CommandEnd → Type 0
 Leaves output text None = Writes output.contents output.before output.after text
 Leaves output text (Some fault.Output) = Stops output.contents output.before output.after text
 Leaves output text (Some (fault.Text f)) = Untouched output
 Leaves output text (Some (fault.Case f nurse)) = Untouched output
-Leaves output text (Some (fault.Hard f names)) = Untouched output
-Leaves output text (Some (fault.Unfound f names)) = Untouched output
+Leaves output text (Some (fault.Hard f d)) = Untouched output
+Leaves output text (Some (fault.Unfound f d)) = Untouched output
 Leaves output text (Some (fault.Unknown thing name)) = Untouched output
 Leaves output text (Some fault.Memory) = Untouched output
 Leaves output text (Some fault.Workspace) = Untouched output
 Leaves output text (Some fault.Log) = Untouched output
 
--- what it leaves of its log before a fault is told: all, where it is done or the output failed; some, where the log failed;
--- else none
+-- what it leaves of its log before a fault is reported: all, if it is done or the output failed; a beginning,
+-- if the log failed; else nothing
 abbrev pub LeavesLog : {L : Type 0} → Output L → Option Text → CommandEnd → Type 0
-LeavesLog log told None = Logged log told
-LeavesLog log told (Some fault.Output) = Logged log told
-LeavesLog log told (Some fault.Log) = StopsLog log told
-LeavesLog log told (Some (fault.Text f)) = Untouched log
-LeavesLog log told (Some (fault.Case f nurse)) = Untouched log
-LeavesLog log told (Some (fault.Hard f names)) = Untouched log
-LeavesLog log told (Some (fault.Unfound f names)) = Untouched log
-LeavesLog log told (Some (fault.Unknown thing name)) = Untouched log
-LeavesLog log told (Some fault.Memory) = Untouched log
-LeavesLog log told (Some fault.Workspace) = Untouched log
+LeavesLog log log_text None = Logged log log_text
+LeavesLog log log_text (Some fault.Output) = Logged log log_text
+LeavesLog log log_text (Some fault.Log) = StopsLog log log_text
+LeavesLog log log_text (Some (fault.Text f)) = Untouched log
+LeavesLog log log_text (Some (fault.Case f nurse)) = Untouched log
+LeavesLog log log_text (Some (fault.Hard f d)) = Untouched log
+LeavesLog log log_text (Some (fault.Unfound f d)) = Untouched log
+LeavesLog log log_text (Some (fault.Unknown thing name)) = Untouched log
+LeavesLog log log_text (Some fault.Memory) = Untouched log
+LeavesLog log log_text (Some fault.Workspace) = Untouched log
 
 -- ---- the bytes
 
@@ -153,33 +153,33 @@ HasFault bytes f = IsFirstFault (line_at_end bytes) (all_seen bytes (tokens_of b
 
 -- ---- a case and its roster: what a command answers for them
 
--- what a command asks of them and writes for them
+-- what a command requires of them and writes for them
 pub record Report : Type 0 where
-  -- it holds the roster, so that it takes memory for what it keeps of it
+  -- whether it holds the roster, and so takes memory for what it keeps with it
   pub is_held : Bool
   -- the breaches of the hard rules for which it refuses them, in their order
   pub broken : List HardFault
-  -- where it looks for a roster, the breaches of the nearest one that it found
+  -- if it looks for a roster, the breaches of the nearest one that it found
   pub unfound : List HardFault
-  -- what it is asked for, where the case has nothing of that name
+  -- what it is asked about, if the case has nothing of that name
   pub unknown : Option (Thing × Text)
   pub output : Text
-  -- what it tells of its work, if it tells any
+  -- the lines of its log, if it has one
   pub log : Option Text
 
--- one that writes a text and asks for nothing
+-- a command that writes a text and requires nothing
 abbrev pub plain : Text → Report
 plain text = record { is_held = false; broken = []; unfound = []; unknown = None; output = text; log = None }
 
--- the number of a name among these; it is asked for only where it is one of them
+-- the number of a name among these; it is used only if the name is one of them
 abbrev pub number_among : List Text → Text → ℕ
 number_among names name = unwrap_or (find_name names name) 0
 
--- the name, where it is none of these
+-- the name, if it is none of these
 abbrev pub unknown_among : Thing → List Text → Text → Option (Thing × Text)
 unknown_among thing names name = if is_some (find_name names name) then None else Some (thing, name)
 
--- the same of a nurse
+-- the same for a nurse
 abbrev pub number_of : Meaning → Text → ℕ
 number_of c name = number_among c.nurse_names name
 
@@ -211,7 +211,7 @@ best_report name from c r =
       log = Some (log_with_best c from r (number_of c name) name);
     }
 
--- the roster after a run of at most so many rounds from a week on
+-- the roster after a run of at most this number of rounds from a week on
 abbrev pub improved : Meaning → (rounds from : ℕ) → Rows → Rows
 improved c rounds from r = (run c (best_row c from) rounds r).roster
 
@@ -222,18 +222,21 @@ run_log c rounds from r = text_of c (log_of c (best_row c from) rounds r)
 -- the run
 abbrev pub improve_report : (rounds from : ℕ) → Meaning → Rows → Report
 improve_report rounds from c r =
-    record (plain (weeks_text c (improved c rounds from r))) { is_held = true; broken = hard_faults c r; log = Some (run_log c rounds from r) }
+    record (plain (weeks_text c (improved c rounds from r)))
+    { is_held = true; broken = hard_faults c r; log = Some (run_log c rounds from r) }
 
--- what the roster costs, and the last of the floors that were reached, each with its round; 0 where there is none
-abbrev pub bound_report : List FloorLine → Meaning → Rows → Report
+-- what the roster costs, and the last of the lower bounds that were reached, each with its round; 0 if there
+-- is none
+abbrev pub bound_report : List BoundLine → Meaning → Rows → Report
 bound_report lines c r =
-    record (plain (bound_text (penalty c r) (last_line no_line lines).bound)) { is_held = true; broken = hard_faults c r; log = Some (floor_text c r lines) }
+    record (plain (bound_text (penalty c r) (last_line no_line lines).bound))
+    { is_held = true; broken = hard_faults c r; log = Some (bound_log_text c r lines) }
 
--- it is of floors under each roster that keeps the hard rules and the frozen days, no less than the bound of the first round,
--- which is said; how high later ones get isn't
+-- The report is of lower bounds on all rosters that keep the hard rules and the frozen days. The bound of the
+-- first round is defined, and the last bound is no less; how great later ones become isn't stated.
 pub record IsBoundReport (effort : Effort) (from : ℕ) (c : Meaning) (r : Rows) (p : Report) : Type 0 where
-  pub lines : List FloorLine
-  pub is_log : IsFloorLog c from r effort lines
+  pub lines : List BoundLine
+  pub is_log : IsBoundLog c from r effort lines
   pub below : IsLowerBound c from r (last_line no_line lines).bound
   pub is : p ≡ bound_report lines c r
 
@@ -244,16 +247,21 @@ day_name d = decimal (d / 7) ++ codes ":" ++ weekday_text (d % 7)
 abbrev pub day_names : Meaning → List Text
 day_names c = map day_name (range_with_len 0 (day_count c))
 
--- the names of an assignment: of its day, of its shift, and of a skill where one is named
+-- the names of an assignment: of its day, of its shift, and of a skill if one is named
 pub record AskedNames : Type 0 where
   pub day : Text
   pub shift : Text
   pub skill : Option Text
 
 abbrev pub names_in : Asking → AskedNames
-names_in asking = record { day = asking.day.now; shift = asking.shift.now; skill = option_map (λ (name : Bor Text). name.now) asking.skill }
+names_in asking =
+    record {
+      day = asking.day.now;
+      shift = asking.shift.now;
+      skill = option_map (λ (name : Bor Text). name.now) asking.skill;
+    }
 
--- the assignment of these names; it is asked for only where the case has them
+-- the assignment of these names; it is used only if the case has them
 abbrev pub asked_by : Meaning → AskedNames → Asked
 asked_by c names = record {
   day = number_among (day_names c) names.day;
@@ -265,26 +273,30 @@ asked_by c names = record {
 abbrev pub unknown_asked : Meaning → AskedNames → Option (Thing × Text)
 unknown_asked c names =
     option_or (unknown_among thing.Day (day_names c) names.day)
-    (option_or (unknown_among thing.Shift c.shift_names names.shift) (option_and_then (unknown_among thing.Skill c.skill_names) names.skill))
+    (option_or (unknown_among thing.Shift c.shift_names names.shift)
+    (option_and_then (unknown_among thing.Skill c.skill_names) names.skill))
 
--- a line for each who may take an assignment, with how many nurses are still missed where the roster misses some
+-- a line for each nurse who may take an assignment, with how many nurses are still lacking, if the roster is
+-- short of minimums
 abbrev pub who_line : Meaning → ℕ → Taker → Text
-who_line c missed t = taker_line (nurse_name c t.nurse) t.penalty t.changed (if nat_lt 0 missed then Some t.missed else None)
+who_line c missed t =
+    taker_line (nurse_name c t.nurse) t.penalty t.changed (if nat_lt 0 missed then Some t.missed else None)
 
 abbrev pub who_text : Meaning → ℕ → List Taker → Text
 who_text c missed listed = flat_map (who_line c missed) listed
 
 abbrev pub who_report : AskedNames → (from : ℕ) → List Taker → Meaning → Rows → Report
 who_report names from listed c r =
-    record (plain (who_text c (missed_of c (without_absent_work c r)) listed)) { is_held = true; broken = unmendable c from r; unknown = unknown_asked c names }
+    record (plain (who_text c (missed_of c (without_absent_work c r)) listed))
+    { is_held = true; broken = irreparable c from r; unknown = unknown_asked c names }
 
--- it is of all who may take it, in order; what absent nurses work in the roster doesn't count
+-- The report lists all nurses who may take it, in order. What absent nurses work in the roster doesn't count.
 pub record IsWhoReport (names : AskedNames) (from : ℕ) (c : Meaning) (r : Rows) (p : Report) : Type 0 where
   pub listed : List Taker
   pub in_order : AreInOrder (takers c from (without_absent_work c r) (asked_by c names)) listed
   pub is : p ≡ who_report names from listed c r
 
--- ---- the same of an instance that was read
+-- ---- the same for an instance that was read
 
 abbrev pub IsBoundFor : Effort → (from : ℕ) → Instance → Report → Type 0
 IsBoundFor effort from instance p = IsBoundReport effort from instance.case instance.roster p
@@ -300,63 +312,70 @@ pub record IsAllowed (p : Report) : Type 0 where
   pub found : p.unfound ≡ []
   pub known : p.unknown ≡ None
 
--- how a command ends for them; of its faults the first is told
-abbrev pub IsOutcomeOf : Report → Text → Bundle → CommandEnd → Type 0
-IsOutcomeOf p bytes b None = IsAllowed p
-IsOutcomeOf p bytes b (Some fault.Output) = IsAllowed p
-IsOutcomeOf p bytes b (Some fault.Log) = IsAllowed p × (is_some p.log ≡ true)
-IsOutcomeOf p bytes b (Some (fault.Hard f names)) = IsFirstBreach bytes b p.broken (fault.Hard f names)
-IsOutcomeOf p bytes b (Some (fault.Unfound f names)) = (p.broken ≡ []) × IsFirstBreach bytes b p.unfound (fault.Hard f names)
-IsOutcomeOf p bytes b (Some (fault.Unknown thing name)) = (p.broken ≡ []) × (p.unknown ≡ Some (thing, name.now))
-IsOutcomeOf p bytes b (Some fault.Memory) = IsAllowed p × (p.is_held ≡ true)
-IsOutcomeOf p bytes b (Some fault.Workspace) = (p.broken ≡ []) × (p.unknown ≡ None) × (p.is_held ≡ true)
-IsOutcomeOf p bytes b (Some (fault.Text f)) = ⊥
-IsOutcomeOf p bytes b (Some (fault.Case f nurse)) = ⊥
+-- how a command with this report ends for this case; the first of its faults is reported
+abbrev pub IsOutcomeOf : Report → Meaning → CommandEnd → Type 0
+IsOutcomeOf p c None = IsAllowed p
+IsOutcomeOf p c (Some fault.Output) = IsAllowed p
+IsOutcomeOf p c (Some fault.Log) = IsAllowed p × (is_some p.log ≡ true)
+IsOutcomeOf p c (Some (fault.Hard f d)) = IsFirstBreach c p.broken (fault.Hard f d)
+IsOutcomeOf p c (Some (fault.Unfound f d)) =
+    (p.broken ≡ []) × IsFirstBreach c p.unfound (fault.Hard f d)
+IsOutcomeOf p c (Some (fault.Unknown thing name)) =
+    (p.broken ≡ []) × (p.unknown ≡ Some (thing, name.now))
+IsOutcomeOf p c (Some fault.Memory) = IsAllowed p × (p.is_held ≡ true)
+IsOutcomeOf p c (Some fault.Workspace) = (p.broken ≡ []) × (p.unknown ≡ None) × (p.is_held ≡ true)
+IsOutcomeOf p c (Some (fault.Text f)) = ⊥
+IsOutcomeOf p c (Some (fault.Case f nurse)) = ⊥
 
--- the same with what it leaves of its text
-pub record Ends {W : Type 0} (output : Output W) (p : Report) (bytes : Text) (b : Bundle) (outcome : CommandEnd) : Type 0 where
-  pub ends : IsOutcomeOf p bytes b outcome
+-- the same, with what it leaves of its text
+pub record Ends {W : Type 0} (output : Output W) (p : Report) (c : Meaning)
+    (outcome : CommandEnd) : Type 0 where
+  pub ends : IsOutcomeOf p c outcome
   pub left : Leaves output p.output outcome
 
--- a command of such reports ends so for a case and its roster: there is one of which it leaves so much of its text and of its log
-pub record Reports {W L : Type 0} (output : Output W) (log : Output L) (is_report : Report → Type 0) (bytes : Text) (b : Bundle) (outcome : CommandEnd) : Type 0 where
+-- a command with such a report ends so for this case, and leaves this much of its text and of its log
+pub record Reports {W L : Type 0} (output : Output W) (log : Output L) (is_report : Report → Type 0)
+    (c : Meaning) (outcome : CommandEnd) : Type 0 where
   pub report : Report
   pub is : is_report report
-  pub ends : Ends output report bytes b outcome
+  pub ends : Ends output report c outcome
   pub logged : LeavesLog log report.log outcome
 
--- the same of a command that tells nothing of its work
-pub record EndsBy {W : Type 0} (output : Output W) (is_report : Report → Type 0) (bytes : Text) (b : Bundle) (outcome : CommandEnd) : Type 0 where
+-- the same for a command without a log
+pub record EndsBy {W : Type 0} (output : Output W) (is_report : Report → Type 0) (c : Meaning)
+    (outcome : CommandEnd) : Type 0 where
   pub report : Report
   pub is : is_report report
-  pub ends : Ends output report bytes b outcome
+  pub ends : Ends output report c outcome
 
--- why a text was not all written, and what was written
+-- why a text was not written whole, and what was written
 abbrev pub StopsOutput : {W : Type 0} → (W → Option (List ℕ)) → Watched W → Watched W → Text → Fault → Type 0
 StopsOutput contents old new text fault.Output = Stops contents old new text
 StopsOutput contents old new text _ = ⊥
 
--- why a roster is not held: for the first of these breaches, or for want of memory where there is none
-abbrev pub IsUnheld : Text → Bundle → List HardFault → Fault → Type 0
-IsUnheld bytes b broken fault.Memory = broken ≡ []
-IsUnheld bytes b broken f = IsFirstBreach bytes b broken f
+-- why a roster is not held: the first of these breaches, or want of memory if there is none
+abbrev pub IsUnheld : Meaning → List HardFault → Fault → Type 0
+IsUnheld c broken fault.Memory = broken ≡ []
+IsUnheld c broken f = IsFirstBreach c broken f
 
 -- ---- a bundle: the same, and why it is refused
 
--- the roster that its solutions say, by the names of its own case
+-- the roster of its solutions, by the names of its own case
 abbrev pub roster_of : Text → Bundle → Rows
 roster_of bytes b = rows_of bytes (meaning_of bytes b) b
 
--- the first fault of its case and its solutions, want of memory aside, with the name of the nurse of which it speaks
+-- the first fault of its case and its solutions, want of memory aside, with the name of the nurse that it is
+-- about
 pub record IsRefusedFor (bytes : Text) (b : Bundle) (f : CaseFault) (nurse : Text) : Type 0 where
   pub first : f ≢ Memory → first_fault (all_faults bytes b) ≡ Some f
   pub nurse_is : nurse ≡ nurse_of bytes b f
 
--- its case and its roster, which fits the case, are taken, and a command of this report ends so for them
-pub record IsTaken (p : Report) (bytes : Text) (b : Bundle) (outcome : CommandEnd) : Type 0 where
+-- its case and its roster are accepted, the roster fits the case, and a command of this report, which charges
+-- these points for days that change from the roster, ends so for them
+pub record IsTaken (p : Report) (keep : ℕ) (bytes : Text) (b : Bundle) (outcome : CommandEnd) : Type 0 where
   pub taken : all_faults bytes b ≡ []
   pub fits : fits_case (meaning_of bytes b) (roster_of bytes b) ≡ true
-  pub ends : IsOutcomeOf p bytes b outcome
+  pub ends : IsOutcomeOf p (keeping (meaning_of bytes b) (roster_of bytes b) keep) outcome
 
 -- ---- a command, from the bytes
 
@@ -366,16 +385,16 @@ pub record HasCaseFault (bytes : Text) (f : CaseFault) (nurse : Text) : Type 0 w
   pub spelled : SpellsBundle bytes bundle
   pub refused : IsRefusedFor bytes bundle f nurse
 
--- the bytes spell the bundle of the instance, in which nothing is refused, and it has its case and its roster
+-- the bytes spell a bundle, which is accepted, and the instance has its case and its roster
 pub record SpellsInstance (bytes : Text) (instance : Instance) : Type 0 where
-  pub spelled : SpellsBundle bytes instance.bundle
-  pub taken : all_faults bytes instance.bundle ≡ []
-  pub case : instance.case ≡ meaning_of bytes instance.bundle
-  pub roster : instance.roster ≡ rows_of bytes instance.case instance.bundle
+  pub bundle : Bundle
+  pub spelled : SpellsBundle bytes bundle
+  pub taken : all_faults bytes bundle ≡ []
+  pub case : instance.case ≡ meaning_of bytes bundle
+  pub roster : instance.roster ≡ rows_of bytes instance.case bundle
 
--- an instance with its roster kept at some points; what else it has stays
+-- an instance that charges for days that change from its roster; the rest of it stays
 pub record IsKeptAt (given : Instance) (keep : ℕ) (kept : Instance) : Type 0 where
-  pub bundle : kept.bundle ≡ given.bundle
   pub case : kept.case ≡ keeping given.case given.roster keep
   pub roster : kept.roster ≡ given.roster
 

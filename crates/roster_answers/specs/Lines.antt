@@ -1,6 +1,6 @@
--- The lines of faults, and the statuses. The lines of each kind of fault, and of reports, are those of the crate below.
+-- The lines of faults, and the statuses. `roster_reports` defines the lines of reports, and of each kind of
+-- fault of the input.
 use Rattle.std.specs.Prelude.{◌≡◌, ℕ, ◌++◌, List, [], codes, Some}
-use Rattle.roster_bundle.specs.declared.bundle.Bundle.{Bundle}
 use Rattle.roster_text.specs.declared.fault.TextFault.{TextFault}
 use Rattle.roster_text.specs.declared.fault.TextFault.TheVariants as text
 use Rattle.roster_instance.specs.Faults.{first_fault}
@@ -9,16 +9,16 @@ use Rattle.roster_instance.specs.declared.fault.CaseFault.TheVariants as case
 use Rattle.roster_instance.specs.Meaning.{Meaning}
 use Rattle.roster_rules.specs.Improver.{line, start_word}
 use Rattle.roster_rules.specs.declared.fault.HardFault.{HardFault}
-use Rattle.roster_reports.specs.Lines.{AreNamesOf, Text, case_line, hard_line, memory_line, text_line}
+use Rattle.roster_reports.specs.Lines.{Text, case_line, hard_line, memory_line, text_line}
 use Rattle.roster_answers.specs.declared.fault.Fault.{Fault}
 use Rattle.roster_answers.specs.declared.fault.Fault.TheVariants as fault
 use Rattle.roster_answers.specs.declared.fault.Thing.{Thing}
 use Rattle.roster_answers.specs.declared.fault.Thing.TheVariants as thing
 
--- the fault is the first of these breaches, with its names
-abbrev pub IsFirstBreach : Text → Bundle → List HardFault → Fault → Type 0
-IsFirstBreach source b faults (fault.Hard f names) = (first_fault faults ≡ Some f) × AreNamesOf source b f names
-IsFirstBreach source b faults _ = ⊥
+-- the fault is the first of these breaches, with this case, from which its line takes the names
+abbrev pub IsFirstBreach : Meaning → List HardFault → Fault → Type 0
+IsFirstBreach c faults (fault.Hard f d) = (first_fault faults ≡ Some f) × (d ≡ c)
+IsFirstBreach c faults _ = ⊥
 
 -- the line of an output that failed
 abbrev pub output_line : Text
@@ -31,16 +31,16 @@ thing_text thing.Day = codes "day"
 thing_text thing.Shift = codes "shift"
 thing_text thing.Skill = codes "skill"
 
--- the line of a name that the case doesn't have
+-- the line for a name that the case doesn't have
 abbrev pub unknown_line : Thing → Text → Text
 unknown_line thing name = codes "unknown " ++ thing_text thing ++ codes " " ++ name ++ codes "\n"
 
--- the line of a fault; a log that failed gets none
+-- the line for a fault; there is none if the log failed
 abbrev pub fault_line : Fault → Text
 fault_line (fault.Text f) = text_line f
 fault_line (fault.Case f nurse) = case_line f nurse.now
-fault_line (fault.Hard f names) = hard_line f names
-fault_line (fault.Unfound f names) = codes "not found: " ++ hard_line f names
+fault_line (fault.Hard f d) = hard_line d f
+fault_line (fault.Unfound f d) = codes "not found: " ++ hard_line d f
 fault_line (fault.Unknown thing name) = unknown_line thing name.now
 fault_line fault.Memory = memory_line
 fault_line fault.Workspace = memory_line
@@ -67,8 +67,8 @@ case_status _ = 1
 abbrev pub status_of : Fault → ℕ
 status_of (fault.Text f) = text_status f
 status_of (fault.Case f nurse) = case_status f
-status_of (fault.Hard f names) = 1
-status_of (fault.Unfound f names) = 1
+status_of (fault.Hard f d) = 1
+status_of (fault.Unfound f d) = 1
 status_of (fault.Unknown thing name) = 1
 status_of fault.Memory = 4
 status_of fault.Workspace = 4

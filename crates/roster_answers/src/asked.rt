@@ -1,4 +1,4 @@
-//! What is asked for by names: a day, a shift and a skill of the case.
+//! An assignment that is asked for by names: a day, a shift and perhaps a skill of the case.
 
 ghost use Rattle.std.specs.Prelude.{◌≡◌, ◌<◌, IfErr, IfOk, IfSome, None, OnOk, Some, bytes_eq, option_map};
 ghost use Rattle.roster_instance.specs.Meaning.{day_count, shift_at, skill_at};
@@ -12,8 +12,8 @@ use roster_instance::{Case, Shift, Skill};
 use roster_text::weekday_text;
 use roster_who::Asked;
 
-/// An assignment as it is asked for, by the names of its day, of its shift, and of its skill where one is asked for; and the first
-/// week that may change.
+/// An assignment as it is asked for: by the names of its day, of its shift, and of its skill if one is asked
+/// for. With it goes the first week that may change.
 #[derive(Clone, Copy)]
 pub struct Asking<'a> {
     pub day: &'a [u8],
@@ -22,7 +22,7 @@ pub struct Asking<'a> {
     pub from: u16,
 }
 
-/// What the case has nothing of the name of.
+/// A kind of thing and a name that the case doesn't have.
 #[derive(Clone, Copy)]
 pub struct Unknown<'a> {
     pub thing: Thing,

@@ -1,4 +1,4 @@
-//! The command `best`: the best row of a nurse, put in.
+//! The command `best`: a nurse's best row is put in.
 
 ghost use Rattle.std.specs.Prelude.{◌≡◌, ◌++◌, codes, ◌<◌, ◌≤◌, true, OnErr, OnOk};
 ghost use Rattle.roster_bundle.specs.Limits.{greatest_u64};
@@ -15,8 +15,8 @@ use crate::instance::Instance;
 use crate::weeks::show_weeks;
 use roster_case::{Held, first_hard};
 use roster_instance::Case;
-use roster_offers::{RowTables, Workspace};
-use roster_reports::names_of;
+use roster_log::log_start;
+use roster_offers::{SearchesRows, Workspace};
 use roster_rounds::search_has_room;
 use roster_row::best_row;
 use roster_state::Meter;
@@ -24,31 +24,31 @@ use roster_text::{Piece, Watch, WriteFault, write_pieces};
 use std::alloc::Global;
 use std::io::Write;
 
-/// Writes the weeks of an instance with the best row of the nurse of this name from a week on put in, also where it isn't cheaper.
-/// What the roster costs before and with it goes to the log first. No memory is asked for before it is known whose row it is.
-pub fn report_best<'a, T: RowTables, Out: Write, Log: Write>(
+/// Writes the weeks of an instance with the best row, from a week on, of the nurse of this name put in, even
+/// if it isn't cheaper. What the roster costs before and with it goes to the log first. No memory is asked
+/// for before the nurse is found.
+pub fn report_best<'a, T: SearchesRows, Out: Write, Log: Write>(
     alloc: Global,
     name: &'a [u8],
     from: u16,
-    source: &'a [u8],
     mut instance: Instance,
     output: &mut Watch<Out>,
     log: &mut Watch<Log>,
 ) -> Result<(), Fault<'a>>
     ensures ends { Ends (output_of Out.contents output.old output.new)
-        (best_report name.now from instance.case instance.roster) source.now instance.bundle
+        (best_report name.now from instance.case instance.roster) instance.case
         (outcome_of result) }
     ensures logged { LeavesLog (output_of Log.contents log.old log.new)
         (best_report name.now from instance.case instance.roster).log (outcome_of result) }
 {
     let Some(nurse) = instance.case.find_nurse(name) else {
         if let Some(fault) = first_hard(&instance.case, &instance.roster) {
-            return Err(Fault::Hard(fault, names_of(source, &instance.bundle, fault)));
+            return Err(Fault::Hard(fault, instance.into_case()));
         }
         return Err(Fault::Unknown(Thing::Nurse, name));
     };
     let mut meter = Meter::new(&mut instance.case);
-    let mut held = hold(alloc, source, instance)?;
+    let mut held = hold(alloc, instance)?;
     let Ok(mut workspace) = Workspace::<T>::for_case(alloc, held.case()) else {
         return Err(Fault::Workspace);
     };
@@ -67,9 +67,9 @@ pub fn report_best<'a, T: RowTables, Out: Write, Log: Write>(
     }
 }
 
-/// Puts the best row of a nurse from a week on in. What the roster costs is logged before the search begins, and what it costs with
-/// the row after it. The fault is the log's.
-fn put_best_row<T: RowTables, Log: Write>(
+/// Puts the best row of a nurse from a week on in. It logs what the roster costs before the search begins,
+/// and what it costs with the row after the search. The fault is the log's.
+fn put_best_row<T: SearchesRows, Log: Write>(
     held: &mut Held,
     name: &[u8],
     nurse: usize,
@@ -96,37 +96,21 @@ fn put_best_row<T: RowTables, Log: Write>(
     Ok(())
 }
 
-/// Writes what the roster costs before the search, and before that at how many points the case keeps it, where it does.
+/// Writes what the roster costs before the search. If the case charges for changed days, it first writes how
+/// many points each costs.
 fn write_start<Log: Write>(case: &Case, total: u64, log: &mut Watch<Log>) -> Result<(), WriteFault>
     ensures ok { OnOk result (Writes Log.contents log.old log.new
         (line (start_word case.now) total)) }
     ensures err { OnErr result (Stops Log.contents log.old log.new
         (line (start_word case.now) total)) }
 {
-    let keep = case.keep();
-    if keep == 0 {
-        return write_pieces(
-            log,
-            &[
-                Piece::Bytes(b"start "),
-                Piece::Number(total),
-                Piece::Bytes(b"\n"),
-            ],
-        );
+    match log_start(log, 0, case, total) {
+        Ok(_) => Ok(()),
+        Err(fault) => Err(fault),
     }
-    write_pieces(
-        log,
-        &[
-            Piece::Bytes(b"keep "),
-            Piece::Number(keep as u64),
-            Piece::Bytes(b"\nstart "),
-            Piece::Number(total),
-            Piece::Bytes(b"\n"),
-        ],
-    )
 }
 
-/// Writes what it costs with the best row of the nurse of this name.
+/// Writes what the roster costs with the best row of the nurse of this name.
 fn write_best<Log: Write>(name: &[u8], total: u64, log: &mut Watch<Log>) -> Result<(), WriteFault>
     ensures ok { OnOk result (Writes Log.contents log.old log.new
         (line (codes "best " ++ name.now) total)) }

@@ -1,7 +1,6 @@
 //! Why a command stops.
 
-use roster_instance::CaseFault;
-use roster_reports::BreachNames;
+use roster_instance::{Case, CaseFault};
 use roster_rules::HardFault;
 use roster_text::{TextFault, WriteFault};
 
@@ -32,26 +31,29 @@ impl Thing {
 }
 
 /// Why a command stopped.
-#[derive(Clone, Copy)]
+#[derive(Drop)]
 pub enum Fault<'a> {
-    /// The input was not read, or is not spelled as the grammar says.
+    /// The input was not read, or doesn't follow the grammar.
     Text(TextFault),
-    /// The case or the solutions are not taken. Beside the fault stands the name of the nurse of which it speaks, empty where
-    /// it speaks of none.
+    /// The case or the solutions are refused. With the fault comes the name of the nurse that it is about,
+    /// empty if it is about none.
     Case(CaseFault, &'a [u8]),
-    /// The roster breaks a hard rule that the command asks for.
-    Hard(HardFault, BreachNames<'a>),
-    /// No roster was found that keeps the hard rules. It is the first breach of the nearest one.
-    Unfound(HardFault, BreachNames<'a>),
-    /// The case has nothing of this kind and name, for which the command is.
+    /// The roster breaks a hard rule that the command requires. With the breach, which has numbers, comes the
+    /// case, which has their names.
+    Hard(HardFault, Case),
+    /// No roster was found that keeps the hard rules. The fault is the first breach of the nearest one, with
+    /// the case.
+    Unfound(HardFault, Case),
+    /// The command is asked about something of this kind and name, which the case doesn't have.
     Unknown(Thing, &'a [u8]),
-    /// A growth was refused for what a command keeps of a roster that it holds. Nothing else is refused.
+    /// An allocation was refused for what a command keeps with a roster that it holds. Nothing else is wrong.
     Memory,
-    /// A growth was refused for the workspace of its searches. Nothing is refused that can be told before these.
+    /// An allocation was refused for the workspace of its searches. No fault that is reported before this one
+    /// applies.
     Workspace,
     /// The output failed.
     Output,
-    /// The log failed, inside what the command tells of its work.
+    /// The log failed, inside the lines of the command.
     Log,
 }
 

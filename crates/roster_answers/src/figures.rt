@@ -17,14 +17,13 @@ use std::io::Write;
 /// Writes what each soft rule costs in the roster of an instance.
 pub fn report_cost<'a, Out: Write>(
     alloc: Global,
-    source: &'a [u8],
     instance: Instance,
     output: &mut Watch<Out>,
 ) -> Result<(), Fault<'a>>
     ensures ends { Ends (output_of Out.contents output.old output.new)
-        (cost_report instance.case instance.roster) source.now instance.bundle (outcome_of result) }
+        (cost_report instance.case instance.roster) instance.case (outcome_of result) }
 {
-    let held = hold(alloc, source, instance)?;
+    let held = hold(alloc, instance)?;
     Ok(write_costs(output, held.costs())?)
 }
 

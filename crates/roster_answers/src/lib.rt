@@ -1,9 +1,9 @@
-//! What a command answers, but for those that polish or plan: how the bytes of an input are read, what each of these commands writes, by
-//! whatever tables it searches, and how a fault is told.
+//! What each command answers, except those that polish or plan: how the bytes of an input are read, what the
+//! command writes, whatever tables it searches with, and how a fault is reported.
 //!
-//! The reports, the outcomes, and what a run leaves for each of these are defined in `specs/Answer.antt`; the lines of faults, of the log
-//! of `best`, and the statuses in `specs/Lines.antt`. `refuse` and `refuse_output` promise the line and the status of a fault outside of
-//! a run.
+//! `specs/Answer.antt` defines the reports, the outcomes, and what a run leaves for each of these;
+//! `specs/Lines.antt` defines the lines of faults, the log of `best`, and the statuses. `refuse` and
+//! `refuse_output` promise the line and the status of a fault outside of a run.
 #![tactic(auto)]
 
 mod asked;
@@ -27,7 +27,7 @@ pub use figures::{report_cost, report_sizes};
 pub use held::hold;
 pub use improve::report_improve;
 pub use instance::Instance;
-pub use lines::{refuse, refuse_output, tell};
+pub use lines::{refuse, refuse_output, report_fault};
 pub use reading::{keep_roster, read_instance};
 pub use weeks::show_weeks;
 pub use who::report_who;

@@ -2,7 +2,7 @@
 
 ghost use Rattle.std.specs.Prelude.{◌≡◌, OnOk, IfErr, codes};
 ghost use Rattle.roster_text.specs.Io.{StopsIn, Writes};
-ghost use Rattle.roster_answers.specs.Answer.{Logs, Tells};
+ghost use Rattle.roster_answers.specs.Answer.{Logs, ReportsFault};
 ghost use Rattle.roster_reports.specs.Lines.{text_line};
 ghost use Rattle.roster_answers.specs.Lines.{fault_line, status_of, text_status, unknown_line};
 
@@ -12,34 +12,34 @@ use roster_reports::{write_case_line, write_hard_line, write_no_memory, write_te
 use roster_text::{Piece, TextFault, Watch, WriteFault, write_pieces};
 use std::io::Write;
 
-/// Tells a fault of the input, as `run` does: its line goes to the log, and its status is answered.
+/// Reports a fault of the input, as `run` does: its line goes to the log, and its status is answered.
 pub fn refuse<Log: Write>(fault: TextFault, log: &mut Watch<Log>) -> u8
     ensures status { result ≡ text_status fault }
     ensures line { Logs Log.contents log.old log.new (text_line fault) }
 {
-    tell(Fault::Text(fault), log)
+    report_fault(Fault::Text(fault), log)
 }
 
-/// Tells that the output failed, as `run` does.
+/// Reports that the output failed, as `run` does.
 pub fn refuse_output<Log: Write>(log: &mut Watch<Log>) -> u8
     ensures status { result ≡ 3 }
     ensures line { Logs Log.contents log.old log.new (codes "write failed\n") }
 {
-    tell(Fault::Output, log)
+    report_fault(Fault::Output, log)
 }
 
-/// Tells a fault: its line goes to the log, and its status is answered, also where the line can't be written. To a log that
-/// failed nothing more is written.
-pub fn tell<Log: Write>(fault: Fault<'_>, log: &mut Watch<Log>) -> u8
+/// Reports a fault: its line goes to the log, and its status is answered, even if the line can't be written.
+/// If the log itself has failed, nothing more is written to it.
+pub fn report_fault<Log: Write>(fault: Fault<'_>, log: &mut Watch<Log>) -> u8
     ensures status { result ≡ status_of fault.entry }
-    ensures line { Tells Log.contents log.old log.new fault.entry }
+    ensures line { ReportsFault Log.contents log.old log.new fault.entry }
 {
-    let _ = write_line(fault, log);
-    status_of(fault)
+    let _ = write_line(&fault, log);
+    status_of(&fault)
 }
 
-fn status_of(fault: Fault<'_>) -> u8
-    ensures { result ≡ status_of fault.entry }
+fn status_of(fault: &Fault<'_>) -> u8
+    ensures { result ≡ status_of fault.now }
 {
     match fault {
         Fault::Text(TextFault::Memory)
@@ -55,17 +55,17 @@ fn status_of(fault: Fault<'_>) -> u8
     }
 }
 
-fn write_line<Log: Write>(fault: Fault<'_>, log: &mut Watch<Log>) -> Result<(), WriteFault>
-    ensures ok { OnOk result (Writes Log.contents log.old log.new (fault_line fault.entry)) }
-    ensures err { IfErr result (StopsIn Log.contents log.old log.new (fault_line fault.entry)) }
-    ensures none { fault.entry ≡ Fault.Log → log.new ≡ log.old }
+fn write_line<Log: Write>(fault: &Fault<'_>, log: &mut Watch<Log>) -> Result<(), WriteFault>
+    ensures ok { OnOk result (Writes Log.contents log.old log.new (fault_line fault.now)) }
+    ensures err { IfErr result (StopsIn Log.contents log.old log.new (fault_line fault.now)) }
+    ensures none { fault.now ≡ Fault.Log → log.new ≡ log.old }
 {
     match fault {
-        Fault::Text(fault) => write_text_line(fault, log),
-        Fault::Case(fault, nurse) => write_case_line(fault, nurse, log),
-        Fault::Hard(fault, names) => write_hard_line(b"", fault, names, log),
-        Fault::Unfound(fault, names) => write_hard_line(b"not found: ", fault, names, log),
-        Fault::Unknown(thing, name) => write_unknown(thing, name, log),
+        Fault::Text(fault) => write_text_line(*fault, log),
+        Fault::Case(fault, nurse) => write_case_line(*fault, nurse, log),
+        Fault::Hard(fault, case) => write_hard_line(b"", *fault, case, log),
+        Fault::Unfound(fault, case) => write_hard_line(b"not found: ", *fault, case, log),
+        Fault::Unknown(thing, name) => write_unknown(*thing, name, log),
         Fault::Memory | Fault::Workspace => write_no_memory(log),
         Fault::Output => write_pieces(log, &[Piece::Bytes(b"write failed\n")]),
         Fault::Log => Ok(()),

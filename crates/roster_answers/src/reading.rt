@@ -1,4 +1,4 @@
-//! What the bytes of an input say: the bundle, and the case and the roster that it means.
+//! From the bytes of an input to the bundle that they spell, and to the case and the roster that it means.
 
 ghost use Rattle.std.specs.Prelude.{◌≡◌, ◌≢◌, ◌≤◌, true, [], Some, OnOk, IfOk, IfErr};
 ghost use Rattle.roster_instance.specs.Bundles.{meaning_of, rows_of};
@@ -14,9 +14,9 @@ use roster_bundle::Bundle;
 use roster_instance::{Case, CaseFault, Roster};
 use roster_reports::nurse_of;
 use roster_text::{TextFault, parse_bundle, tokens};
-use std::alloc::Global;
+use std::alloc::{AllocError, Global};
 
-/// What the bytes of an input say, or why they are refused.
+/// What the bytes of an input mean, or why they are refused.
 pub fn read_instance<'a>(alloc: Global, source: &'a [u8]) -> Result<Instance, Fault<'a>>
     ensures says { IfOk result (SpellsInstance source.now) }
     ensures refused { IfErr result (StopsReading source.now) }
@@ -26,39 +26,20 @@ pub fn read_instance<'a>(alloc: Global, source: &'a [u8]) -> Result<Instance, Fa
         Err(fault) => return Err(Fault::Text(fault)),
     };
     match roster_of(alloc, source, &bundle) {
-        Ok((case, roster)) => Ok(Instance {
-            bundle,
-            case,
-            roster,
-        }),
+        Ok((case, roster)) => Ok(Instance { case, roster }),
         Err(fault) => Err(Fault::Case(fault, nurse_of(source, &bundle, fault))),
     }
 }
 
-/// The instance with its roster kept at so many points. The fault is want of memory for that.
-pub fn keep_roster<'a>(
-    alloc: Global,
-    source: &'a [u8],
-    instance: Instance,
-    keep: u16,
-) -> Result<Instance, Fault<'a>>
-    requires says { SpellsInstance source.now instance }
-    requires few { keep ≤ most_keep }
-    ensures kept { IfOk result (IsKeptAt instance keep) }
-    ensures refused { IfErr result (StopsReading source.now) }
+/// The instance, with this number of points for each day that changes from its roster. The error is want of
+/// memory for a copy of the roster.
+pub fn keep_roster(alloc: Global, instance: Instance, keep: u16) -> Result<Instance, AllocError>
+    requires { keep ≤ most_keep }
+    ensures { IfOk result (IsKeptAt instance keep) }
 {
-    let (bundle, case, roster) = instance.into_parts();
-    match case.keeping(alloc, &roster, keep) {
-        Ok(case) => Ok(Instance {
-            bundle,
-            case,
-            roster,
-        }),
-        Err(_) => {
-            let fault = CaseFault::Memory;
-            Err(Fault::Case(fault, nurse_of(source, &bundle, fault)))
-        }
-    }
+    let (case, roster) = instance.into_parts();
+    let case = case.keeping(alloc, &roster, keep)?;
+    Ok(Instance { case, roster })
 }
 
 /// The bundle that the bytes spell.

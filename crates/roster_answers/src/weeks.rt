@@ -12,7 +12,7 @@ use roster_reports::write_weeks;
 use roster_text::Watch;
 use std::io::Write;
 
-/// Writes the weeks of a roster. Where that fails, the fault is the output's.
+/// Writes the weeks of a roster. If that fails, the fault is the output's.
 pub fn show_weeks<'a, Out: Write>(
     case: &Case,
     roster: &Roster,

@@ -8,10 +8,10 @@ ghost use Rattle.roster_answers.specs.Answer.{EndsBy, IsWhoFor, StopsOutput, nam
 use crate::asked::{Asking, asked_by};
 use crate::fault::Fault;
 use crate::instance::Instance;
-use roster_costs::first_unmendable;
+use roster_costs::first_irreparable;
 use roster_instance::Case;
-use roster_offers::RowTables;
-use roster_reports::{names_of, write_taker};
+use roster_offers::SearchesRows;
+use roster_reports::write_taker;
 use roster_rounds::rounds_have_room;
 use roster_state::Meter;
 use roster_text::{Watch, WriteFault};
@@ -19,44 +19,39 @@ use roster_who::{Taker, Takers, find_takers};
 use std::alloc::Global;
 use std::io::Write;
 
-/// Writes a line for each nurse who may take an assignment, in their order. The roster may break what a plan mends.
-pub fn report_who<'a, T: RowTables, Out: Write>(
+/// Writes a line for each nurse who may take an assignment, in their order. The roster may have breaches that
+/// a plan repairs.
+pub fn report_who<'a, T: SearchesRows, Out: Write>(
     alloc: Global,
     asking: Asking<'a>,
-    source: &'a [u8],
     mut instance: Instance,
     output: &mut Watch<Out>,
 ) -> Result<(), Fault<'a>>
     ensures { EndsBy (output_of Out.contents output.old output.new)
-        (IsWhoFor (names_in asking.entry) asking.entry.from instance) source.now instance.bundle
+        (IsWhoFor (names_in asking.entry) asking.entry.from instance) instance.case
         (outcome_of result) }
 {
     let mut meter = Meter::new(&mut instance.case);
-    report_takers::<T, Out>(alloc, asking, source, &instance, &mut meter, output)
+    report_takers::<T, Out>(alloc, asking, instance, &mut meter, output)
 }
 
-/// The same with a meter that has counted nothing.
-fn report_takers<'a, T: RowTables, Out: Write>(
+/// The same, with a meter that has counted nothing yet.
+fn report_takers<'a, T: SearchesRows, Out: Write>(
     alloc: Global,
     asking: Asking<'a>,
-    source: &'a [u8],
-    instance: &Instance,
+    instance: Instance,
     meter: &mut Meter,
     output: &mut Watch<Out>,
 ) -> Result<(), Fault<'a>>
     requires { meter.old ≡ 0 }
     ensures { EndsBy (output_of Out.contents output.old output.new)
-        (IsWhoFor (names_in asking.entry) asking.entry.from instance.now) source.now instance.now.bundle
+        (IsWhoFor (names_in asking.entry) asking.entry.from instance) instance.case
         (outcome_of result) }
 {
-    let Instance {
-        bundle,
-        case,
-        roster,
-    } = instance;
-    if let Some(fault) = first_unmendable(case, roster, asking.from) {
-        return Err(Fault::Hard(fault, names_of(source, bundle, fault)));
+    if let Some(fault) = first_irreparable(&instance.case, &instance.roster, asking.from) {
+        return Err(Fault::Hard(fault, instance.into_case()));
     }
+    let Instance { case, roster } = &instance;
     let asked = match asked_by(case, asking) {
         Ok(asked) => asked,
         Err(unknown) => return Err(Fault::Unknown(unknown.thing, unknown.name)),
@@ -68,7 +63,7 @@ fn report_takers<'a, T: RowTables, Out: Write>(
     }
 }
 
-/// Writes a line for each who may take it. Where that fails, the fault is the output's.
+/// Writes a line for each nurse who may take it. If that fails, the fault is the output's.
 fn show_takers<'a, Out: Write>(
     case: &Case,
     takers: &Takers,
@@ -95,13 +90,13 @@ fn write_takers<Out: Write>(
         (who_text case.now takers.now.missed takers.now.listed.items)) }
 {
     let listed = takers.listed.as_slice();
-    for place in 0..listed.len() {
-        write_line(case, takers.missed, listed[place], output)?;
+    for index in 0..listed.len() {
+        write_line(case, takers.missed, listed[index], output)?;
     }
     Ok(())
 }
 
-/// Writes the line of a nurse, with how many are still missed where the roster misses some.
+/// Writes the line of a nurse, with how many nurses are still lacking, if the roster is short of minimums.
 fn write_line<Out: Write>(
     case: &Case,
     missed: u64,

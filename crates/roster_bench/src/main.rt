@@ -1,5 +1,5 @@
-//! The program `roster_bench`: makes bundles of a size, lets the program `roster` answer them in memory, and prints a digest of
-//! what it wrote. It tells no times; `bench/run` does.
+//! The program `roster_bench`: makes bundles of a given size, lets the program `roster` answer them in
+//! memory, and prints a digest of what it wrote. It measures no times; `bench/run` does.
 #![tactic(auto)]
 
 mod runs;
@@ -30,12 +30,12 @@ fn main(rt: HostRuntime) -> io::Result<ExitCode> {
         rt.stdout().write_all(&bundle)?;
         return Ok(ExitCode::from(0));
     }
-    let told = run_plan(rt.alloc(), &plan)?;
+    let tally = run_plan(rt.alloc(), &plan)?;
     let (digest, bundles, bytes, status) = (
-        told.digest.value(),
-        told.bundles,
-        told.bytes,
-        told.status,
+        tally.digest.value(),
+        tally.bundles,
+        tally.bytes,
+        tally.status,
     );
     println!(rt; "{digest:016x} {bundles} bundles, {bytes} bytes, status {status}")?;
     Ok(ExitCode::from(status))

@@ -10,10 +10,10 @@ use roster_text::Watch;
 use roster_wards::{Digest, Plan, Work};
 use std::alloc::{AllocError, Global};
 
-/// What runs wrote: a digest of all outputs, logs and statuses, how many bundles there were, how many bytes of output, and
-/// the last status.
+/// What runs wrote: a digest of all outputs, logs and statuses, the number of bundles, the number of bytes of
+/// output, and the last status.
 #[derive(Clone, Copy)]
-pub struct Told {
+pub struct Tally {
     pub digest: Digest,
     pub bundles: u32,
     pub bytes: usize,
@@ -21,25 +21,25 @@ pub struct Told {
 }
 
 /// Makes the bundles of a plan, and answers each.
-pub fn run_plan(alloc: Global, plan: &Plan) -> Result<Told, AllocError> {
+pub fn run_plan(alloc: Global, plan: &Plan) -> Result<Tally, AllocError> {
     let request = Request {
         command: command_of(plan),
         files: Vec::new(alloc),
     };
-    let mut told = Told {
+    let mut tally = Tally {
         digest: Digest::new(),
         bundles: plan.work.bundles(),
         bytes: 0,
         status: 0,
     };
-    for number in 0..told.bundles {
+    for number in 0..tally.bundles {
         let bundle = plan.size.bundle(alloc, number)?;
-        told.answer(alloc, &request, &bundle);
+        tally.answer(alloc, &request, &bundle);
     }
-    Ok(told)
+    Ok(tally)
 }
 
-/// The command by which a plan's bundles are answered. It has the plan's amount, and no week is frozen.
+/// The command that answers a plan's bundles. It has the plan's amount, and no week is frozen.
 fn command_of(plan: &Plan) -> Command
     ensures show { (number : ℕ) → plan.now.work ≡ work.Show number → result ≡ command.Show }
     ensures cost { (bundles : ℕ) → plan.now.work ≡ work.Cost bundles → result ≡ command.Cost }
@@ -74,8 +74,8 @@ fn command_of(plan: &Plan) -> Command
     }
 }
 
-impl Told {
-    /// Answers a bundle, and takes down what was written.
+impl Tally {
+    /// Answers a bundle, and records what was written.
     fn answer(&mut self, alloc: Global, request: &Request, bundle: &[u8]) {
         let mut input = Watch::new(bundle);
         let mut output = Watch::new(Vec::new(alloc));

@@ -1,4 +1,4 @@
-//! The search for the best row, with the workspace of programs.
+//! The search for the best row, with the workspace that programs use.
 
 ghost use Rattle.std.specs.Prelude.{◌≡◌, ◌+◌, ◌<◌, ◌≤◌, true};
 ghost use Rattle.roster_bundle.specs.Limits.{greatest_u64};
@@ -6,7 +6,7 @@ ghost use Rattle.roster_instance.specs.Meaning.{day_count, nurse_count};
 ghost use Rattle.roster_rules.specs.AllowedRows.{IsBestRow, penalty_with, row_keeps};
 ghost use Rattle.roster_laws.specs.Greatest.{extension_count};
 ghost use Rattle.roster_offers.specs.Offers.{shift_offers};
-ghost use Rattle.roster_offers.specs.Workspaces.{SameRoom, fits_space};
+ghost use Rattle.roster_offers.specs.Workspaces.{SameCapacity, fits_space};
 ghost use Rattle.roster_partial.specs.Counts.{CountsSearch};
 
 use roster_case::Held;
@@ -14,13 +14,15 @@ use roster_partial::Workspace;
 use roster_row::Best;
 use roster_state::Meter;
 
-/// Searches a nurse's best row from a week on: among all rows with which the roster keeps the hard rules, the other rows, her days
-/// before that week and her fixed days as they are, the first of those with the least penalty. Every `from` is allowed. `Workspace::row`
-/// shows the row afterwards. It takes no memory. The meter counts each floor, partial row and state that is taken over a choice: one
-/// for each day at least, and at most one for each state, day and choice of the nurse.
+/// Searches a nurse's best row from a week on: among all rows with which the roster keeps the hard rules,
+/// with the other rows, her days before that week and her fixed days as they are, the first of those with the
+/// least penalty. Every `from` is allowed. `Workspace::row` shows the row afterwards. The search takes no
+/// memory. The meter counts each completion bound, partial row and state with each choice by which it is
+/// extended: at least one extension for each day, and at most one for each state, day and choice of the
+/// nurse.
 ///
-/// A caller who doesn't know that it may be called looks at `nurse < case.nurses()`, at `workspace.fits(case)`, and whether
-/// `meter.room()` is at least `most_steps(case, nurse)`.
+/// A caller who can't be sure of the conditions checks that `nurse < case.nurses()`, that
+/// `workspace.fits(case)`, and that `meter.room()` is at least `most_search_extensions(case, nurse)`.
 pub fn best_row(
     held: &Held,
     nurse: usize,
@@ -41,9 +43,9 @@ pub fn best_row(
     // What it takes.
     ensures each_day { meter.old + day_count held.now.case ≤ meter.new }
     ensures counted { meter.new ≤ meter.old + extension_count held.now.case nurse }
-    ensures standing { CountsSearch held.now.case nurse (shift_offers held.now.case from
+    ensures are_reachable { CountsSearch held.now.case nurse (shift_offers held.now.case from
         held.now.roster nurse) meter.old meter.new }
-    ensures same_room { SameRoom workspace.old workspace.new }
+    ensures same_capacity { SameCapacity workspace.old workspace.new }
     ensures fits { fits_space held.now.case workspace.new ≡ true }
 {
     roster_row::best_row(held, nurse, from, workspace, meter)

@@ -1,4 +1,4 @@
--- What the places pay is what the nurses earn: so the least costs together are at most the penalty.
+-- What the slots pay is what the nurses earn, so the least costs together are at most the penalty.
 use Rattle.std.proofs.Common.{◌≡◌, ◌+◌, ◌-◌, ◌*◌, ◌/◌, ◌%◌, ◌<◌, ◌≤◌, ◌&&◌, ◌==◌, ℕ, zero, suc, Bool, true, false, not, ap, arith, refl, [], length, nat_lt, mul-add, if◌then◌else◌}
 use Rattle.std.specs.List.{list_all}
 use Rattle.std.proofs.lemmas.Bool.{and_parts, eqb-true}
@@ -19,11 +19,11 @@ use Rattle.roster_rules.proofs.RunBounds.{sum_both}
 use Rattle.roster_laws.proofs.Below.{all_elim}
 use Rattle.roster_laws.proofs.Fives.{five_is}
 use Rattle.roster_laws.proofs.OneRow.{penalty-parts, requests_of_row}
-use Rattle.roster_places.specs.Places.{AreWorths, PlaceWorths, earned, most_worth, place_floor, places_floor}
-use Rattle.roster_worths.specs.Worths.{IsLowerBound, bound_by, own_rows, price_by, rounded_up, row_cost_by, row_floor, with_floors}
-use Rattle.roster_worths.proofs.OwnRows.{among, two_rules}
-use Rattle.roster_bound.proofs.LeastCosts.{least_below, place_least}
-use Rattle.roster_bound.proofs.Sums.{count_by_place, over_places, places_both, places_le, places_none, sum_le, sum_of_one, sum_same_number}
+use Rattle.roster_slots.specs.Slots.{AreDualPrices, SlotPrices, choice_dual_price, most_dual_price, slot_bound, slots_bound}
+use Rattle.roster_prices.specs.LowerBounds.{IsLowerBound, bound_by, own_rows, price_by, rounded_up, row_cost_by, row_bound, lagrangian_with}
+use Rattle.roster_prices.proofs.OwnRows.{among, two_rules}
+use Rattle.roster_bound.proofs.LeastCosts.{least_below, slot_least}
+use Rattle.roster_bound.proofs.Sums.{count_by_slot, over_slots, slots_both, slots_le, slots_none, sum_le, sum_of_one, sum_same_number}
 
 -- ---- what one nurse earns
 
@@ -31,8 +31,8 @@ times_one : (x : ℕ) (b : Bool) → x * one_if b ≡ (if b then x else 0)
 times_one x true = omega arith
 times_one x false = omega arith
 
-module _ (w : PlaceWorths) where
-  -- what the places of a day pay to a choice
+module _ (w : SlotPrices) where
+  -- what the slots of a day pay to a choice
   paid_to : Choice → ℕ → ℕ → ℕ → ℕ
   paid_to x d s k = w d s k * one_if (same_choice x (Work (shift_at s) (skill_at k)))
 
@@ -40,10 +40,10 @@ module _ (w : PlaceWorths) where
   by_skill d t l s skills true = omega (arith, sum_same skills (λ k. w d s k * one_if (l == k)) (λ k. if l == k then w d s k else 0) (λ k h. times_one (w d s k) (l == k)), sum_of_one skills l (w d s))
   by_skill d t l s skills false = omega (arith, sum_zero skills (λ k. w d s k * 0) (λ k h. omega arith))
 
-  day_earned : (shifts skills d : ℕ) (x : Choice) → sum_below shifts (λ s. sum_below skills (paid_to x d s)) ≤ earned w d x
+  day_dual_price : (shifts skills d : ℕ) (x : Choice) → sum_below shifts (λ s. sum_below skills (paid_to x d s)) ≤ choice_dual_price w d x
   unfolding paid_to
-  day_earned shifts skills d Off = omega (arith, sum_zero shifts (λ s. sum_below skills (λ k. w d s k * 0)) (λ s h. sum_zero skills (λ k. w d s k * 0) (λ k l. omega arith)))
-  day_earned shifts skills d (Work t l) =
+  day_dual_price shifts skills d Off = omega (arith, sum_zero shifts (λ s. sum_below skills (λ k. w d s k * 0)) (λ s h. sum_zero skills (λ k. w d s k * 0) (λ k l. omega arith)))
+  day_dual_price shifts skills d (Work t l) =
       omega (
         arith,
         sum_le shifts (λ s. sum_below skills (λ k. w d s k * one_if ((t.0 == s) && (l.0 == k)))) (λ s. if t.0 == s then w d s l.0 else 0) (λ s h. by_skill d t.0 l.0 s skills (t.0 == s)),
@@ -51,50 +51,50 @@ module _ (w : PlaceWorths) where
       )
 
   module _ (days shifts skills : ℕ) (r : Rows) where
-    -- how many of the first m nurses are at a place, and what they earn
+    -- how many of the first m nurses are in a slot, and what they earn
     abbrev first_nurses : ℕ → ℕ → ℕ → ℕ → ℕ
     first_nurses m d s k = sum_below m (λ n. one_if (same_choice (choice_on (row_of r n) d) (Work (shift_at s) (skill_at k))))
 
-    abbrev pub row_earned : ℕ → ℕ
-    row_earned n = sum_below days (λ d. earned w d (choice_on (row_of r n) d))
+    abbrev pub row_dual_prices : ℕ → ℕ
+    row_dual_prices n = sum_below days (λ d. choice_dual_price w d (choice_on (row_of r n) d))
 
-    paid_up_to : (m : ℕ) → over_places days shifts skills (λ d s k. w d s k * first_nurses m d s k) ≤ sum_below m row_earned
+    paid_up_to : (m : ℕ) → over_slots days shifts skills (λ d s k. w d s k * first_nurses m d s k) ≤ sum_below m row_dual_prices
     unfolding paid_to
-    paid_up_to zero = omega (arith, places_none days shifts skills (λ d s k. w d s k * 0) (λ d s k. omega arith))
+    paid_up_to zero = omega (arith, slots_none days shifts skills (λ d s k. w d s k * 0) (λ d s k. omega arith))
     paid_up_to (suc m) =
         let row : Row = row_of r m in
         let last : ℕ → ℕ → ℕ → ℕ = λ d. paid_to (choice_on row d) d in
         omega (
           arith,
-          places_both days shifts skills (λ d s k. w d s k * first_nurses (suc m) d s k) (λ d s k. w d s k * first_nurses m d s k) last
+          slots_both days shifts skills (λ d s k. w d s k * first_nurses (suc m) d s k) (λ d s k. w d s k * first_nurses m d s k) last
               (λ d s k. mul-add (w d s k) (first_nurses m d s k) (one_if (same_choice (choice_on row d) (Work (shift_at s) (skill_at k))))),
           paid_up_to m,
-          sum_le days (λ d. sum_below shifts (λ s. sum_below skills (last d s))) (λ d. earned w d (choice_on row d)) (λ d h. day_earned shifts skills d (choice_on row d)),
+          sum_le days (λ d. sum_below shifts (λ s. sum_below skills (last d s))) (λ d. choice_dual_price w d (choice_on row d)) (λ d h. day_dual_price shifts skills d (choice_on row d)),
         )
 
-    -- what all places pay
-    pub paid_is_earned : over_places days shifts skills (λ d s k. w d s k * cover r d s k) ≤ sum_below (length r) row_earned
+    -- what all slots pay
+    pub paid_is_earned : over_slots days shifts skills (λ d s k. w d s k * cover r d s k) ≤ sum_below (length r) row_dual_prices
     paid_is_earned =
-        let same : over_places days shifts skills (λ d s k. w d s k * first_nurses (length r) d s k) ≡ over_places days shifts skills (λ d s k. w d s k * cover r d s k) =
-        λ i. over_places days shifts skills (λ d s k. w d s k * count_by_place (λ (row : Row). same_choice (choice_on row d) (Work (shift_at s) (skill_at k))) r [] i) in
+        let same : over_slots days shifts skills (λ d s k. w d s k * first_nurses (length r) d s k) ≡ over_slots days shifts skills (λ d s k. w d s k * cover r d s k) =
+        λ i. over_slots days shifts skills (λ d s k. w d s k * count_by_slot (λ (row : Row). same_choice (choice_on row d) (Work (shift_at s) (skill_at k))) r [] i) in
         omega (arith, same, paid_up_to (length r))
 
--- ---- a row costs by the worths what it costs, less what is earned
+-- ---- by the dual prices a row costs what it costs, less what is earned
 
-prices_split : (n : ℕ) (p e q : ℕ → ℕ) → ((d : ℕ) → e d ≤ most_worth) → ((d : ℕ) → p d ≡ (most_worth - e d) + q d) → sum_below n p + sum_below n e ≡ sum_below n q + n * most_worth
+prices_split : (n : ℕ) (p e q : ℕ → ℕ) → ((d : ℕ) → e d ≤ most_dual_price) → ((d : ℕ) → p d ≡ (most_dual_price - e d) + q d) → sum_below n p + sum_below n e ≡ sum_below n q + n * most_dual_price
 prices_split zero p e q within each = refl
 prices_split (suc n) p e q within each = omega (arith, prices_split n p e q within each, each n, within n)
 
-earned_within : (w : PlaceWorths) → AreWorths w → (d : ℕ) (x : Choice) → earned w d x ≤ most_worth
-earned_within w are d Off = omega arith
-earned_within w are d (Work s k) = are d s.0 k.0
+dual_price_within : (w : SlotPrices) → AreDualPrices w → (d : ℕ) (x : Choice) → choice_dual_price w d x ≤ most_dual_price
+dual_price_within w are d Off = omega arith
+dual_price_within w are d (Work s k) = are d s.0 k.0
 
-pub row_cost-earned : (c : Meaning) (w : PlaceWorths) → AreWorths w → (n : ℕ) (row : Row)
-    → row_cost_by c w n row + sum_below (length row) (λ d. earned w d (choice_on row d)) ≡ nurse_cost c n (days_of row) + length row * most_worth
-row_cost-earned c w are n row =
+pub row_cost-choice_dual_price : (c : Meaning) (w : SlotPrices) → AreDualPrices w → (n : ℕ) (row : Row)
+    → row_cost_by c w n row + sum_below (length row) (λ d. choice_dual_price w d (choice_on row d)) ≡ nurse_cost c n (days_of row) + length row * most_dual_price
+row_cost-choice_dual_price c w are n row =
     omega (
       arith,
-      prices_split (length row) (λ d. price_by c w n d (choice_on row d)) (λ d. earned w d (choice_on row d)) (λ d. request_cost_on c n d (shift_of (choice_on row d))) (λ d. earned_within w are d (choice_on row d)) (λ d. refl),
+      prices_split (length row) (λ d. price_by c w n d (choice_on row d)) (λ d. choice_dual_price w d (choice_on row d)) (λ d. request_cost_on c n d (shift_of (choice_on row d))) (λ d. dual_price_within w are d (choice_on row d)) (λ d. refl),
       requests_of_row c n row,
     )
 
@@ -117,7 +117,7 @@ rounded_below c r b h = go (c.keep % 5 == 0) refl
     go true e = five_below b (penalty c r) h (five_is c (eqb-true (c.keep % 5) 0 e) r)
     go false e = h
 
-module _ (c : Meaning) (from : ℕ) (given : Rows) (w : PlaceWorths) (are : AreWorths w) (r : Rows) (fits : fits_case c r ≡ true) (keeps : keeps_hard c r ≡ true) (stays : FrozenDaysStay c from given r) where
+module _ (c : Meaning) (from : ℕ) (given : Rows) (w : SlotPrices) (are : AreDualPrices w) (r : Rows) (fits : fits_case c r ≡ true) (keeps : keeps_hard c r ≡ true) (stays : FrozenDaysStay c from given r) where
   nurses : length r ≡ nurse_count c
   nurses = eqb-true (length r) (nurse_count c) (and_parts (length r == nurse_count c) (list_all (is_row_of c) r) fits).0
 
@@ -127,9 +127,9 @@ module _ (c : Meaning) (from : ℕ) (given : Rows) (w : PlaceWorths) (are : AreW
       (all_elim (skill_count c) (λ k. not (nat_lt (cover r d s k) (minimum c d s k)))
       (all_elim (shift_count c) (λ s. all_below (skill_count c) (λ k. not (nat_lt (cover r d s k) (minimum c d s k)))) (all_elim (day_count c) (λ d. meets c d (cover r d)) (two_rules c r keeps).0 d hd) s hs) k hk)
 
-  -- the places: what is missing and the pay
-  places_below : places_floor c w ≤ staffing_cost c r + over_places (day_count c) (shift_count c) (skill_count c) (λ d s k. w d s k * cover r d s k)
-  places_below =
+  -- the slots: the penalty for missing nurses, and the pay
+  slots_below : slots_bound c w ≤ staffing_cost c r + over_slots (day_count c) (shift_count c) (skill_count c) (λ d s k. w d s k * cover r d s k)
+  slots_below =
       let D = day_count c in
       let S = shift_count c in
       let K = skill_count c in
@@ -137,47 +137,47 @@ module _ (c : Meaning) (from : ℕ) (given : Rows) (w : PlaceWorths) (are : AreW
       let pay : ℕ → ℕ → ℕ → ℕ = λ d s k. w d s k * cover r d s k in
       omega (
         arith,
-        places_le D S K (place_floor c w) (λ d s k. missing d s k + pay d s k) (λ d s k hd hs hk. place_least (w d s k) (minimum c d s k) (optimum c d s k) (cover r d s k) (minimum_met d s k hd hs hk)),
-        places_both D S K (λ d s k. missing d s k + pay d s k) missing pay (λ d s k. refl),
+        slots_le D S K (slot_bound c w) (λ d s k. missing d s k + pay d s k) (λ d s k hd hs hk. slot_least (w d s k) (minimum c d s k) (optimum c d s k) (cover r d s k) (minimum_met d s k hd hs hk)),
+        slots_both D S K (λ d s k. missing d s k + pay d s k) missing pay (λ d s k. refl),
       )
 
   -- whatever each nurse's row costs at least
-  module _ (floor : ℕ → ℕ) (least : (n : ℕ) → n < nurse_count c → floor n ≤ row_cost_by c w n (row_of r n)) where
-    row_below : (n : ℕ) → n < nurse_count c → floor n + row_earned w (day_count c) (shift_count c) (skill_count c) r n ≤ nurse_cost c n (days_of_nurse r n) + day_count c * most_worth
+  module _ (bound : ℕ → ℕ) (least : (n : ℕ) → n < nurse_count c → bound n ≤ row_cost_by c w n (row_of r n)) where
+    row_below : (n : ℕ) → n < nurse_count c → bound n + row_dual_prices w (day_count c) (shift_count c) (skill_count c) r n ≤ nurse_cost c n (days_of_nurse r n) + day_count c * most_dual_price
     row_below n inside =
         let days : length (row_of r n) ≡ day_count c = row-length c r n fits inside in
-        let earns : sum_below (length (row_of r n)) (λ d. earned w d (choice_on (row_of r n) d)) ≡ sum_below (day_count c) (λ d. earned w d (choice_on (row_of r n) d)) =
-        ap (λ m. sum_below m (λ d. earned w d (choice_on (row_of r n) d))) days in
-        let room : length (row_of r n) * most_worth ≡ day_count c * most_worth = ap (λ m. m * most_worth) days in
-        omega (arith, least n inside, row_cost-earned c w are n (row_of r n), earns, room)
+        let earns : sum_below (length (row_of r n)) (λ d. choice_dual_price w d (choice_on (row_of r n) d)) ≡ sum_below (day_count c) (λ d. choice_dual_price w d (choice_on (row_of r n) d)) =
+        ap (λ m. sum_below m (λ d. choice_dual_price w d (choice_on (row_of r n) d))) days in
+        let room : length (row_of r n) * most_dual_price ≡ day_count c * most_dual_price = ap (λ m. m * most_dual_price) days in
+        omega (arith, least n inside, row_cost-choice_dual_price c w are n (row_of r n), earns, room)
 
-    rows_below : sum_below (nurse_count c) floor + sum_below (nurse_count c) (row_earned w (day_count c) (shift_count c) (skill_count c) r)
-        ≤ sum_below (nurse_count c) (λ n. nurse_cost c n (days_of_nurse r n)) + nurse_count c * (day_count c * most_worth)
+    rows_below : sum_below (nurse_count c) bound + sum_below (nurse_count c) (row_dual_prices w (day_count c) (shift_count c) (skill_count c) r)
+        ≤ sum_below (nurse_count c) (λ n. nurse_cost c n (days_of_nurse r n)) + nurse_count c * (day_count c * most_dual_price)
     rows_below =
         let N = nurse_count c in
-        let earns = row_earned w (day_count c) (shift_count c) (skill_count c) r in
-        let room : ℕ = day_count c * most_worth in
+        let earns = row_dual_prices w (day_count c) (shift_count c) (skill_count c) r in
+        let room : ℕ = day_count c * most_dual_price in
         omega (
           arith,
-          sum_both N floor earns,
-          sum_le N (λ n. floor n + earns n) (λ n. nurse_cost c n (days_of_nurse r n) + room) row_below,
+          sum_both N bound earns,
+          sum_le N (λ n. bound n + earns n) (λ n. nurse_cost c n (days_of_nurse r n) + room) row_below,
           sum_both N (λ n. nurse_cost c n (days_of_nurse r n)) (λ n. room),
           sum_same_number N room,
         )
 
-    together_below : with_floors c w floor ≤ penalty c r
+    together_below : lagrangian_with c w bound ≤ penalty c r
     together_below =
-        let earns = row_earned w (day_count c) (shift_count c) (skill_count c) r in
-        let paid : over_places (day_count c) (shift_count c) (skill_count c) (λ d s k. w d s k * cover r d s k) ≤ sum_below (nurse_count c) earns =
+        let earns = row_dual_prices w (day_count c) (shift_count c) (skill_count c) r in
+        let paid : over_slots (day_count c) (shift_count c) (skill_count c) (λ d s k. w d s k * cover r d s k) ≤ sum_below (nurse_count c) earns =
         omega (arith, paid_is_earned w (day_count c) (shift_count c) (skill_count c) r, ap (λ m. sum_below m earns) nurses) in
-        put_together (places_floor c w) (sum_below (nurse_count c) floor) (sum_below (nurse_count c) earns) (sum_below (nurse_count c) (λ n. nurse_cost c n (days_of_nurse r n))) (nurse_count c * (day_count c * most_worth)) (staffing_cost c r) (penalty c r)
-        (omega (arith, places_below, paid)) rows_below (penalty-parts c r)
+        put_together (slots_bound c w) (sum_below (nurse_count c) bound) (sum_below (nurse_count c) earns) (sum_below (nurse_count c) (λ n. nurse_cost c n (days_of_nurse r n))) (nurse_count c * (day_count c * most_dual_price)) (staffing_cost c r) (penalty c r)
+        (omega (arith, slots_below, paid)) rows_below (penalty-parts c r)
 
-    pub below : rounded_up c (with_floors c w floor) ≤ penalty c r
-    below = rounded_below c r (with_floors c w floor) together_below
+    pub below : rounded_up c (lagrangian_with c w bound) ≤ penalty c r
+    below = rounded_below c r (lagrangian_with c w bound) together_below
 
-pub no_roster_below : (c : Meaning) (from : ℕ) (given : Rows) (w : PlaceWorths) → AreWorths w → IsLowerBound c from given (bound_by c from given w)
+pub no_roster_below : (c : Meaning) (from : ℕ) (given : Rows) (w : SlotPrices) → AreDualPrices w → IsLowerBound c from given (bound_by c from given w)
 unfolding bound_by
 no_roster_below c from given w are r fits keeps stays =
-    below c from given w are r fits keeps stays (row_floor c from given w)
+    below c from given w are r fits keeps stays (row_bound c from given w)
     (λ n inside. least_below (row_cost_by c w n) (own_rows c from given n) (row_of r n) (among c from given r fits keeps stays n inside))

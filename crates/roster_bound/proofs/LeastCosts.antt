@@ -1,4 +1,4 @@
--- The least that a place costs, and the least of a list.
+-- The least that a slot costs, and the least of a list.
 use Rattle.std.proofs.Common.{◌≡◌, ◌+◌, ◌-◌, ◌*◌, ◌<◌, ◌≤◌, ◌⊎◌, ℕ, Bool, true, false, inl, inr, ap, arith, refl, List, [], ◌∷◌, nat_lt, mul-add, Contains, if◌then◌else◌}
 use Rattle.std.specs.Prelude.{min, max}
 use Rattle.std.specs.List.{All}
@@ -9,11 +9,11 @@ use Rattle.std.proofs.lemmas.List.Elements.{All-cons, All-contains, All-nil, All
 use Rattle.roster_rules.specs.AllowedRows.{cheaper_of, first_least}
 use Rattle.roster_rules.specs.Weights.{staffing_weight}
 
--- ---- a place: between the minimum m and the optimum o each further nurse z adds the pay and takes off one weight, and above it adds
--- the pay
+-- ---- a slot: between the minimum m and the optimum o each further nurse z adds the pay and takes off one
+-- weight, and above the optimum she adds the pay
 
-pub place_least : (g m o z : ℕ) → m ≤ z → min (staffing_weight * (o - m) + g * m) (staffing_weight * (o - max m o) + g * max m o) ≤ staffing_weight * (o - z) + g * z
-place_least g m o z h = go (cases_lt z o) (cases_lt staffing_weight g)
+pub slot_least : (g m o z : ℕ) → m ≤ z → min (staffing_weight * (o - m) + g * m) (staffing_weight * (o - max m o) + g * max m o) ≤ staffing_weight * (o - z) + g * z
+slot_least g m o z h = go (cases_lt z o) (cases_lt staffing_weight g)
   where
     most : ℕ
     most = max m o

@@ -1,8 +1,8 @@
 pub mod Sums
 pub mod LeastCosts
 pub mod Duality
-pub mod PartFloors
-pub mod PartLaws
+pub mod NodeBounds
+pub mod NodeLaws
 pub mod Counted
 pub mod SameBounds
-pub mod FloorLogs
+pub mod BoundLogLaws

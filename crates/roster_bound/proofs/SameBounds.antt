@@ -1,4 +1,4 @@
--- A bound is by the worths at the case's places alone.
+-- A bound depends on the dual prices at the case's slots alone.
 use Rattle.std.proofs.Common.{◌≡◌, ◌+◌, ◌-◌, ◌*◌, ◌<◌, ◌==◌, ℕ, Bool, true, false, ap, ap₂, refl, arith, List, [], ◌∷◌, length, nat_lt, Contains, None, Option, Some, if◌then◌else◌}
 use Rattle.std.specs.List.{All, list_all}
 use Rattle.std.specs.Option.{option_map_or}
@@ -15,8 +15,8 @@ use Rattle.roster_rules.specs.AllowedRows.{cheaper_of, first_least}
 use Rattle.roster_rules.specs.Penalties.{own_cost, request_cost_on}
 use Rattle.roster_rules.proofs.RunSums.{sum_same}
 use Rattle.roster_laws.proofs.AllRows.{member_is_row}
-use Rattle.roster_places.specs.Places.{PlaceWorths, SameWorths, earned, most_worth, place_floor, places_floor}
-use Rattle.roster_worths.specs.Worths.{bound_by, can_work, own_rows, price_by, rounded_up, row_cost_by, row_floor}
+use Rattle.roster_slots.specs.Slots.{SlotPrices, SameDualPrices, choice_dual_price, most_dual_price, slot_bound, slots_bound}
+use Rattle.roster_prices.specs.LowerBounds.{bound_by, can_work, own_rows, price_by, rounded_up, row_cost_by, row_bound}
 use Rattle.roster_bound.proofs.LeastCosts.{least_cost}
 
 -- ---- the first least member, and what it costs
@@ -49,12 +49,12 @@ module _ {A : Type 0} (f g : A → ℕ) where
   unfolding SameLeast
   least_same xs each = (least_pair xs each).1
 
--- ---- a case, and worths that agree at its places
+-- ---- a case, and dual prices that agree at its slots
 
-module _ (c : Meaning) (w v : PlaceWorths) (same : SameWorths c w v) where
-  earned_same : (d : ℕ) (x : Choice) → d < day_count c → is_choice_of c x ≡ true → earned w d x ≡ earned v d x
-  earned_same d Off inside is = refl
-  earned_same d (Work s k) inside is =
+module _ (c : Meaning) (w v : SlotPrices) (same : SameDualPrices c w v) where
+  dual_price_same : (d : ℕ) (x : Choice) → d < day_count c → is_choice_of c x ≡ true → choice_dual_price w d x ≡ choice_dual_price v d x
+  dual_price_same d Off inside is = refl
+  dual_price_same d (Work s k) inside is =
       let parts = and_parts (nat_lt s.0 (shift_count c)) (nat_lt k.0 (skill_count c)) is in
       same d s.0 k.0 inside (ltb-true s.0 (shift_count c) parts.0) (ltb-true k.0 (skill_count c) parts.1)
 
@@ -65,26 +65,26 @@ module _ (c : Meaning) (w v : PlaceWorths) (same : SameWorths c w v) where
       let choice : (d : ℕ) → d < length row → is_choice_of c (choice_on row d) ≡ true = λ d inside. All-get_or (λ x. is_choice_of c x ≡ true) row d Off inside (AllPass-from_list_all (is_choice_of c) row parts.1) in
       ap (λ m. own_cost c n (days_of row) + m)
       (sum_same (length row) (λ d. price_by c w n d (choice_on row d)) (λ d. price_by c v n d (choice_on row d))
-      (λ d inside. ap (λ e. (most_worth - e) + request_cost_on c n d (shift_of (choice_on row d))) (earned_same d (choice_on row d) (omega (arith, inside, days)) (choice d inside))))
+      (λ d inside. ap (λ e. (most_dual_price - e) + request_cost_on c n d (shift_of (choice_on row d))) (dual_price_same d (choice_on row d) (omega (arith, inside, days)) (choice d inside))))
 
-  row_floor_same : (from : ℕ) (given : Rows) (n : ℕ) → row_floor c from given w n ≡ row_floor c from given v n
-  row_floor_same from given n =
+  row_bound_same : (from : ℕ) (given : Rows) (n : ℕ) → row_bound c from given w n ≡ row_bound c from given v n
+  row_bound_same from given n =
       let rows : List Row = all_rows (all_choices c) (day_count c) in
       let P : Row → Type 0 = λ row. row_cost_by c w n row ≡ row_cost_by c v n row in
       least_same (row_cost_by c w n) (row_cost_by c v n) (own_rows c from given n)
       (All-filter (can_work c from given n) P rows (All-weaker (Contains rows) P (λ row member. row_same n row (member_is_row c row member)) rows (All-contains_itself rows)))
 
-  places_same : places_floor c w ≡ places_floor c v
-  places_same =
-      let at : PlaceWorths → ℕ → ℕ → ℕ = λ u d s. sum_below (skill_count c) (place_floor c u d s) in
-      let on : PlaceWorths → ℕ → ℕ = λ u d. sum_below (shift_count c) (at u d) in
+  slots_same : slots_bound c w ≡ slots_bound c v
+  slots_same =
+      let at : SlotPrices → ℕ → ℕ → ℕ = λ u d s. sum_below (skill_count c) (slot_bound c u d s) in
+      let on : SlotPrices → ℕ → ℕ = λ u d. sum_below (shift_count c) (at u d) in
       sum_same (day_count c) (on w) (on v)
       (λ d hd. sum_same (shift_count c) (at w d) (at v d)
-      (λ s hs. sum_same (skill_count c) (place_floor c w d s) (place_floor c v d s) (λ k hk. ap (λ e. place_floor c (λ day shift skill. e) d s k) (same d s k hd hs hk))))
+      (λ s hs. sum_same (skill_count c) (slot_bound c w d s) (slot_bound c v d s) (λ k hk. ap (λ e. slot_bound c (λ day shift skill. e) d s k) (same d s k hd hs hk))))
 
-module _ (c : Meaning) (from : ℕ) (given : Rows) (w v : PlaceWorths) (same : SameWorths c w v) where
+module _ (c : Meaning) (from : ℕ) (given : Rows) (w v : SlotPrices) (same : SameDualPrices c w v) where
   pub bound_same : bound_by c from given w ≡ bound_by c from given v
   unfolding bound_by
   bound_same =
-      ap₂ (λ places nurses. rounded_up c (places + nurses - nurse_count c * (day_count c * most_worth))) (places_same c w v same)
-      (sum_same (nurse_count c) (row_floor c from given w) (row_floor c from given v) (λ n inside. row_floor_same c w v same from given n))
+      ap₂ (λ slots nurses. rounded_up c (slots + nurses - nurse_count c * (day_count c * most_dual_price))) (slots_same c w v same)
+      (sum_same (nurse_count c) (row_bound c from given w) (row_bound c from given v) (λ n inside. row_bound_same c w v same from given n))

@@ -1,2 +1,2 @@
-pub mod Parting
-pub mod Floors
+pub mod Branching
+pub mod BoundLogs

@@ -1,107 +1,115 @@
-//! By which decision a part is parted.
+//! By which decision a node is branched.
 
 ghost use Rattle.std.specs.Prelude.{◌<◌, ◌≤◌, IfSome};
 ghost use Rattle.roster_instance.specs.Limits.{most_nurses};
 ghost use Rattle.roster_instance.specs.Meaning.{nurse_count};
-ghost use Rattle.roster_bound.specs.Parting.{AreTwoOf};
-ghost use Rattle.roster_places.specs.Seen.{FitsSeen};
-ghost use Rattle.roster_worths.specs.Workspaces.{FitsFloor};
+ghost use Rattle.roster_bound.specs.Branching.{AreChildrenOf};
+ghost use Rattle.roster_slots.specs.ColumnPool.{FitsPool};
+ghost use Rattle.roster_prices.specs.Workspaces.{FitsBound};
 
-use crate::known::move_by_known_rows;
-use crate::parts::{Part, Two};
+use crate::nodes::{Children, Node};
+use crate::pooled::move_by_pooled_rows;
 use arrayvec::ArrayVec;
 use roster_instance::{Case, Choice, Shift, Skill};
-use roster_offers::RowTables;
-use roster_places::{KEPT, NOWHERE, PARTS, Seen};
-use roster_worths::{Decision, FloorWorkspace};
+use roster_offers::SearchesRows;
+use roster_prices::{BoundWorkspace, Decision};
+use roster_slots::{ColumnPool, FINE_PER_POINT, OFF_SLOT, ROWS_PER_NURSE};
 
-/// A decision, and how many uses a nurse's rows have with it or without it, whichever is less.
+/// A branching decision, and how many uses a nurse's rows have with it or without it, whichever is less.
 #[derive(Clone, Copy, Default)]
 struct Candidate {
     decision: Decision,
     uses: u32,
 }
 
-/// A place of a row on a day.
+/// The slot of a row on a day.
 #[derive(Clone, Copy)]
-struct Spot {
+struct DaySlot {
     day: u16,
-    place: u16,
+    slot: u16,
 }
 
-/// So many decisions are tried at most.
+/// How many decisions are tried at most.
 const TRIED: usize = 40;
 
-/// How often the worths move before decisions are looked for, and in a trial of one.
-const MOVES_BEFORE: u16 = 300;
+/// How many subgradient steps are made before decisions are looked for, and in a trial of one.
+const STEPS_BEFORE: u16 = 300;
 
-const MOVES_IN_TRIAL: u16 = 100;
+const STEPS_IN_TRIAL: u16 = 100;
 
-/// A part's gain counts up to ten points, so that a decision isn't worth more where it leaves hardly a roster, and a hundredth of a point
-/// more, so that a part that gains nothing doesn't make all others alike.
-const MOST_GAIN: u64 = 10 * PARTS as u64;
+/// The gain of a child counts up to ten points, so that a decision isn't preferred for leaving hardly a
+/// roster in it. A hundredth of a point is added, so that a child without any gain doesn't make all decisions
+/// alike.
+const MOST_GAIN: u64 = 10 * FINE_PER_POINT as u64;
 
-const LEAST_GAIN: u64 = PARTS as u64 / 100;
+const LEAST_GAIN: u64 = FINE_PER_POINT as u64 / 100;
 
-/// The two parts of a part for which the known rows promise most: of those decisions that part them most evenly, the one with which the
-/// gains of the two have the greatest product. None where each nurse has but one row, or no more decisions have room.
-pub(crate) fn choose<T: RowTables>(
+/// The children of a node by the decision that promises most by the pooled rows: of those that split the uses
+/// of a nurse's rows most evenly, the one for which the product of the children's gains is greatest. None if
+/// each nurse has but one row, or if the node can take no more decisions.
+pub(crate) fn choose<T: SearchesRows>(
     case: &Case,
-    part: &Part,
-    floor: &mut FloorWorkspace<T>,
+    node: &Node,
+    bounds: &mut BoundWorkspace<T>,
     uses: &mut [u32],
-) -> Option<Two>
-    requires { FitsFloor case.now floor.old }
-    ensures two { IfSome result (λ two. AreTwoOf part.now two.with two.without) }
-    ensures fits { FitsFloor case.now floor.new }
+) -> Option<Children>
+    requires { FitsBound case.now bounds.old }
+    ensures two { IfSome result (λ two. AreChildrenOf node.now two.with two.without) }
+    ensures fits { FitsBound case.now bounds.new }
 {
-    let decisions = part.decisions.as_slice();
-    move_by_known_rows(case, decisions, MOVES_BEFORE, floor, uses);
-    let tried = candidates(case, &floor.seen, uses);
-    floor.set_worths_aside(case);
-    let now = move_by_known_rows(case, decisions, 1, floor, &mut []);
+    let decisions = node.decisions.as_slice();
+    move_by_pooled_rows(case, decisions, STEPS_BEFORE, bounds, uses);
+    let tried = candidates(case, &bounds.pool, uses);
+    bounds.set_dual_prices_aside(case);
+    let now = move_by_pooled_rows(case, decisions, 1, bounds, &mut []);
     let mut chosen = None;
     let mut most = 0;
     for candidate in tried.as_slice() {
-        let Some(two) = part.in_two(candidate.decision) else {
+        let Some(two) = node.branched_by(candidate.decision) else {
             return None;
         };
-        let promise = gain_of(case, &two.with, now, floor).saturating_mul(gain_of(
+        let score = gain_of(case, &two.with, now, bounds).saturating_mul(gain_of(
             case,
             &two.without,
             now,
-            floor,
+            bounds,
         ));
-        if promise <= most {
+        if score <= most {
             continue;
         }
-        most = promise;
+        most = score;
         chosen = Some(two);
     }
-    floor.take_worths_back(case);
+    bounds.take_dual_prices_back(case);
     chosen
 }
 
-/// By how much the bound that the known rows give is greater in a part, by moves from the worths that were set aside.
-fn gain_of<T: RowTables>(case: &Case, part: &Part, now: u64, floor: &mut FloorWorkspace<T>) -> u64
-    requires { FitsFloor case.now floor.old }
-    ensures { FitsFloor case.now floor.new }
+/// By how much the bound that the pooled rows give is greater in a child, by subgradient steps from the dual
+/// prices that were set aside.
+fn gain_of<T: SearchesRows>(
+    case: &Case,
+    node: &Node,
+    now: u64,
+    bounds: &mut BoundWorkspace<T>,
+) -> u64
+    requires { FitsBound case.now bounds.old }
+    ensures { FitsBound case.now bounds.new }
 {
-    floor.take_worths_back(case);
-    let decisions = part.decisions.as_slice();
-    let bound = move_by_known_rows(case, decisions, MOVES_IN_TRIAL, floor, &mut []);
+    bounds.take_dual_prices_back(case);
+    let decisions = node.decisions.as_slice();
+    let bound = move_by_pooled_rows(case, decisions, STEPS_IN_TRIAL, bounds, &mut []);
     bound.saturating_sub(now).min(MOST_GAIN) + LEAST_GAIN
 }
 
-/// The decisions, one of each nurse and day, that part the uses of the nurses' rows most evenly.
-fn candidates(case: &Case, seen: &Seen, uses: &[u32]) -> ArrayVec<Candidate, TRIED>
-    requires fits { FitsSeen case.now seen.now }
+/// The decisions, one of each nurse and day, that split the uses of the nurses' rows most evenly.
+fn candidates(case: &Case, pool: &ColumnPool, uses: &[u32]) -> ArrayVec<Candidate, TRIED>
+    requires fits { FitsPool case.now pool.now }
 {
     case.keeps_limits();
     let mut found = ArrayVec::new();
     for nurse in 0..case.nurses() {
         for day in 0..case.days() {
-            let candidate = even_share(case, seen, uses, nurse, day);
+            let candidate = most_even_decision(case, pool, uses, nurse, day);
             if candidate.uses > 0 {
                 keep_more_even(&mut found, candidate);
             }
@@ -110,7 +118,8 @@ fn candidates(case: &Case, seen: &Seen, uses: &[u32]) -> ArrayVec<Candidate, TRI
     found
 }
 
-/// Keeps a decision among others, in the place of the least even one where there is no room, if it is more even than that.
+/// Adds a decision to those found. If they are as many as are tried, it replaces the least even one, provided
+/// that it is more even.
 fn keep_more_even(found: &mut ArrayVec<Candidate, TRIED>, candidate: Candidate) {
     if !found.is_full() {
         found.push(candidate);
@@ -128,35 +137,41 @@ fn keep_more_even(found: &mut ArrayVec<Candidate, TRIED>, candidate: Candidate) 
     }
 }
 
-/// The decision on a day that parts the uses of a nurse's rows most evenly.
-fn even_share(case: &Case, seen: &Seen, uses: &[u32], nurse: usize, day: u16) -> Candidate
+/// The decision on a day that splits the uses of a nurse's rows most evenly.
+fn most_even_decision(
+    case: &Case,
+    pool: &ColumnPool,
+    uses: &[u32],
+    nurse: usize,
+    day: u16,
+) -> Candidate
     requires nurse { nurse < nurse_count case.now }
     requires few { nurse_count case.now ≤ most_nurses }
-    requires fits { FitsSeen case.now seen.now }
+    requires fits { FitsPool case.now pool.now }
 {
-    let first = KEPT * nurse;
+    let first = ROWS_PER_NURSE * nurse;
     let mut all: u32 = 0;
-    for at in first..first + KEPT {
+    for at in first..first + ROWS_PER_NURSE {
         all = all.saturating_add(uses_of(uses, at));
     }
-    let mut place = NOWHERE;
+    let mut slot = OFF_SLOT;
     let mut even = 0;
-    for at in first..first + KEPT {
+    for at in first..first + ROWS_PER_NURSE {
         if uses_of(uses, at) == 0 {
             continue;
         }
-        let here = seen.place_at(case, at, day);
-        let with = uses_with(case, seen, uses, nurse, Spot { day, place: here });
+        let here = pool.slot_at(case, at, day);
+        let with = uses_with(case, pool, uses, nurse, DaySlot { day, slot: here });
         let less = with.min(all.saturating_sub(with));
         if less > even {
-            place = here;
+            slot = here;
             even = less;
         }
     }
     let decision = Decision {
         nurse: nurse as u16,
         day,
-        choice: choice_at(place),
+        choice: choice_at(slot),
         does: true,
     };
     Candidate {
@@ -165,31 +180,31 @@ fn even_share(case: &Case, seen: &Seen, uses: &[u32], nurse: usize, day: u16) ->
     }
 }
 
-/// How many uses a nurse's rows have with a place on a day.
-fn uses_with(case: &Case, seen: &Seen, uses: &[u32], nurse: usize, on: Spot) -> u32
+/// How many uses a nurse's rows have with a slot on a day.
+fn uses_with(case: &Case, pool: &ColumnPool, uses: &[u32], nurse: usize, on: DaySlot) -> u32
     requires nurse { nurse < nurse_count case.now }
-    requires fits { FitsSeen case.now seen.now }
+    requires fits { FitsPool case.now pool.now }
 {
-    let first = KEPT * nurse;
+    let first = ROWS_PER_NURSE * nurse;
     let mut with: u32 = 0;
-    for at in first..first + KEPT {
+    for at in first..first + ROWS_PER_NURSE {
         let used = uses_of(uses, at);
-        if used > 0 && seen.place_at(case, at, on.day) == on.place {
+        if used > 0 && pool.slot_at(case, at, on.day) == on.slot {
             with = with.saturating_add(used);
         }
     }
     with
 }
 
-/// The uses of a row; none beyond all rows.
+/// The uses of a row; 0 beyond all rows.
 fn uses_of(uses: &[u32], at: usize) -> u32 {
     if at < uses.len() { uses[at] } else { 0 }
 }
 
-/// The choice of a place.
-fn choice_at(place: u16) -> Choice {
-    if place == NOWHERE {
+/// The choice of a slot.
+fn choice_at(slot: u16) -> Choice {
+    if slot == OFF_SLOT {
         return Choice::Off;
     }
-    Choice::Work(Shift((place % 64 / 8) as u8), Skill((place % 8) as u8))
+    Choice::Work(Shift((slot % 64 / 8) as u8), Skill((slot % 8) as u8))
 }

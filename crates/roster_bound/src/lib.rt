@@ -1,28 +1,30 @@
-//! A floor under the penalty of every roster of a case that keeps the hard rules.
+//! A lower bound on the penalty of every roster of a case that keeps the hard rules.
 //!
-//! The floor by any worths is defined in `specs/Worths.antt` of `roster_worths`, and the log of a run in `specs/Floors.antt`.
-//! `no_roster_is_below_the_bound` promises that it is a floor. `lower_bound` promises to be it, and `raise_floor` that all that it tells is
-//! the bound of a round, and no less than the first round's.
+//! The lower bound by any dual prices is defined in `specs/LowerBounds.antt` of `roster_prices`, and the log
+//! of a run in `specs/BoundLogs.antt`. `no_roster_is_below_the_bound` promises that it is a lower bound.
+//! `lower_bound` promises to return it, and `raise_bound` that each lower bound that its rounds report is
+//! that of some dual prices, and no less than the first round's.
 //!
-//! A floor over parts of the rosters is defined in `specs/Parts.antt` there and in `specs/Parting.antt`: `choosing` takes the next decision,
-//! by how worths move in a part (`known`), and `part_least` (`tree`) promises that the parts still make up all rosters, each with a floor
-//! under it (`ArePartsOf`).
+//! The lower bound for the rosters of a node is defined in `specs/Nodes.antt` there, and nodes that contain
+//! all rosters in `specs/Branching.antt`. `choosing` takes the next branching decision, by how dual prices
+//! move in a node (`pooled`), and `branch_least` (`tree`) promises that the nodes still contain all rosters,
+//! each with a lower bound for its own (`AreNodesOf`).
 #![tactic(auto)]
 
+mod bounds;
 mod choosing;
 mod effort;
-mod floors;
-mod known;
 mod laws;
-mod parts;
+mod nodes;
+mod pooled;
 mod rounds;
 mod tree;
-mod under;
+mod upper;
 
+pub use bounds::lower_bound;
 pub use effort::{Effort, Reached};
-pub use floors::lower_bound;
 pub use laws::{
-    bounds_are_rounded_up, met_bound_is_least, no_roster_is_below_the_bound, parts_make_all,
+    bounds_are_rounded_up, met_bound_is_least, no_roster_is_below_the_bound, nodes_cover_all,
 };
-pub use rounds::raise_floor;
+pub use rounds::raise_bound;
 pub use tree::BoundSpace;

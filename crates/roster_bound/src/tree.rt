@@ -1,158 +1,162 @@
-//! A floor over all rosters as the least over parts of them.
+//! A lower bound for all rosters as the least over the nodes of a branching tree.
 
 ghost use Rattle.std.specs.Prelude.{◌≡◌, ◌+◌, ◌*◌, ◌<◌, ◌≤◌, IfOk};
 ghost use Rattle.roster_bundle.specs.Limits.{greatest_u64};
 ghost use Rattle.roster_instance.specs.Meaning.{nurse_count};
 ghost use Rattle.roster_laws.specs.Greatest.{extensions_in, greatest_extension_count};
-ghost use Rattle.roster_bound.specs.Floors.{part_rounds};
-ghost use Rattle.roster_bound.specs.Parting.{ArePartsOf};
-ghost use Rattle.roster_worths.specs.Parts.{IsLowerBoundIn};
-ghost use Rattle.roster_worths.specs.Workspaces.{FitsFloor};
+ghost use Rattle.roster_bound.specs.BoundLogs.{node_rounds};
+ghost use Rattle.roster_bound.specs.Branching.{AreNodesOf};
+ghost use Rattle.roster_prices.specs.Nodes.{IsLowerBoundIn};
+ghost use Rattle.roster_prices.specs.Workspaces.{FitsBound};
 
+use crate::bounds::lower_bound_in;
 use crate::choosing::choose;
-use crate::floors::lower_bound_in;
-use crate::known::{move_by_known_rows, move_in_part};
-use crate::parts::{Part, Parts};
-use crate::under::Under;
+use crate::nodes::{Node, Nodes};
+use crate::pooled::{move_by_pooled_rows, move_in_node};
+use crate::upper::UpperBound;
 use roster_instance::Case;
-use roster_offers::{BestFault, RowTables};
+use roster_offers::{BestFault, SearchesRows};
+use roster_prices::{Base, BoundWorkspace, Decision, Terms};
 use roster_state::Meter;
-use roster_worths::{Base, Decision, FloorWorkspace, Terms};
 use std::alloc::Global;
 
-/// The memory of a run that raises a floor.
-pub struct BoundSpace<T: RowTables> {
-    pub floor: FloorWorkspace<T>,
-    pub(crate) parts: Parts,
+/// The memory of a run that raises a lower bound.
+pub struct BoundSpace<T: SearchesRows> {
+    pub bounds: BoundWorkspace<T>,
+    pub(crate) nodes: Nodes,
 }
 
-// By hand, so that who drops it has one call to prove.
-impl<T: RowTables> Drop for BoundSpace<T> {
+// Written by hand, so that a function that drops it has one call to prove.
+impl<T: SearchesRows> Drop for BoundSpace<T> {
     fn drop(self) {
-        let BoundSpace { floor: _, parts: _ } = self;
+        let BoundSpace {
+            bounds: _,
+            nodes: _,
+        } = self;
     }
 }
 
-impl<T: RowTables> BoundSpace<T> {
-    /// Room for a run over a case with so many partings, by at most thirteen growths.
+impl<T: SearchesRows> BoundSpace<T> {
+    /// The memory for a run over a case with this many branchings, by at most thirteen allocations.
     ///
     /// # Errors
     ///
-    /// A growth was refused.
+    /// An allocation was refused.
     pub fn for_case(alloc: Global, case: &Case, nodes: u16) -> Result<BoundSpace<T>, BestFault>
-        ensures { IfOk result (λ space. FitsFloor case.now space.floor) }
+        ensures { IfOk result (λ space. FitsBound case.now space.bounds) }
     {
         Ok(BoundSpace {
-            floor: FloorWorkspace::for_case(alloc, case)?,
-            parts: Parts::for_nodes(alloc, case, nodes)?,
+            bounds: BoundWorkspace::for_case(alloc, case)?,
+            nodes: Nodes::for_nodes(alloc, case, nodes)?,
         })
     }
 }
 
-/// How many rounds of searches are made in a part at most.
-const PART_ROUNDS: u16 = 12;
+/// How many rounds of searches are made in a node at most.
+const NODE_ROUNDS: u16 = 12;
 
-/// How often the worths move by known rows before these rounds.
-const MOVES_BEFORE: u16 = 300;
+/// How many subgradient steps by pooled rows precede these rounds.
+const STEPS_BEFORE: u16 = 300;
 
-/// Parts the rosters of the part with the least floor, once more. Tells whether that could be.
-pub(crate) fn part_least<T: RowTables>(
-    under: &Under<'_>,
+/// Branches the node with the least lower bound. Returns false if that isn't possible.
+pub(crate) fn branch_least<T: SearchesRows>(
+    upper: &UpperBound<'_>,
     space: &mut BoundSpace<T>,
     meter: &mut Meter,
 ) -> bool
-    requires fits { FitsFloor under.now.base.now.case.now space.old.floor }
-    requires parts { ArePartsOf under.now.base.now.case.now under.now.base.now.from
-        under.now.base.now.given.now space.old.parts.items.items }
-    requires room { meter.old + extensions_in under.now.base.now.case.now (2 * part_rounds)
+    requires fits { FitsBound upper.now.base.now.case.now space.old.bounds }
+    requires nodes { AreNodesOf upper.now.base.now.case.now upper.now.base.now.from
+        upper.now.base.now.given.now space.old.nodes.items.items }
+    requires room { meter.old + extensions_in upper.now.base.now.case.now (2 * node_rounds)
         ≤ greatest_u64 }
-    ensures parts { ArePartsOf under.now.base.now.case.now under.now.base.now.from
-        under.now.base.now.given.now space.new.parts.items.items }
-    ensures fits { FitsFloor under.now.base.now.case.now space.new.floor }
+    ensures nodes { AreNodesOf upper.now.base.now.case.now upper.now.base.now.from
+        upper.now.base.now.given.now space.new.nodes.items.items }
+    ensures fits { FitsBound upper.now.base.now.case.now space.new.bounds }
     ensures grows { meter.old ≤ meter.new }
-    ensures counted { meter.new ≤ meter.old + extensions_in under.now.base.now.case.now
-        (2 * part_rounds) }
+    ensures counted { meter.new ≤ meter.old + extensions_in upper.now.base.now.case.now
+        (2 * node_rounds) }
 {
-    let BoundSpace { floor, parts } = space;
-    if parts.items.is_empty() {
+    let BoundSpace { bounds, nodes } = space;
+    if nodes.items.is_empty() {
         return false;
     }
-    let at = parts.least();
-    let chosen = choose(under.base.case, &parts.items[at], floor, &mut parts.uses);
+    let at = nodes.least();
+    let chosen = choose(upper.base.case, &nodes.items[at], bounds, &mut nodes.uses);
     let Some(mut two) = chosen else {
         return false;
     };
-    raise_part(under, &mut two.with, floor, meter);
-    raise_part(under, &mut two.without, floor, meter);
-    parts.put_two(at, two)
+    raise_node(upper, &mut two.with, bounds, meter);
+    raise_node(upper, &mut two.without, bounds, meter);
+    nodes.put_children(at, two)
 }
 
-/// Raises the floor under the rosters of a part.
-fn raise_part<T: RowTables>(
-    under: &Under<'_>,
-    part: &mut Part,
-    floor: &mut FloorWorkspace<T>,
+/// Raises the lower bound of a node.
+fn raise_node<T: SearchesRows>(
+    upper: &UpperBound<'_>,
+    node: &mut Node,
+    bounds: &mut BoundWorkspace<T>,
     meter: &mut Meter,
 )
-    requires fits { FitsFloor under.now.base.now.case.now floor.old }
-    requires below { IsLowerBoundIn under.now.base.now.case.now under.now.base.now.from
-        under.now.base.now.given.now part.old.decisions.items part.old.floor }
-    requires room { meter.old + extensions_in under.now.base.now.case.now part_rounds
+    requires fits { FitsBound upper.now.base.now.case.now bounds.old }
+    requires below { IsLowerBoundIn upper.now.base.now.case.now upper.now.base.now.from
+        upper.now.base.now.given.now node.old.decisions.items node.old.bound }
+    requires room { meter.old + extensions_in upper.now.base.now.case.now node_rounds
         ≤ greatest_u64 }
-    ensures decisions { part.new.decisions ≡ part.old.decisions }
-    ensures below { IsLowerBoundIn under.now.base.now.case.now under.now.base.now.from
-        under.now.base.now.given.now part.new.decisions.items part.new.floor }
-    ensures fits { FitsFloor under.now.base.now.case.now floor.new }
+    ensures decisions { node.new.decisions ≡ node.old.decisions }
+    ensures below { IsLowerBoundIn upper.now.base.now.case.now upper.now.base.now.from
+        upper.now.base.now.given.now node.new.decisions.items node.new.bound }
+    ensures fits { FitsBound upper.now.base.now.case.now bounds.new }
     ensures grows { meter.old ≤ meter.new }
-    ensures counted { meter.new ≤ meter.old + extensions_in under.now.base.now.case.now
-        part_rounds }
+    ensures counted { meter.new ≤ meter.old + extensions_in upper.now.base.now.case.now
+        node_rounds }
 {
-    let case = under.base.case;
-    move_by_known_rows(
+    let case = upper.base.case;
+    move_by_pooled_rows(
         case,
-        part.decisions.as_slice(),
-        MOVES_BEFORE,
-        floor,
+        node.decisions.as_slice(),
+        STEPS_BEFORE,
+        bounds,
         &mut [],
     );
-    for made in 0..PART_ROUNDS {
-        if part.floor >= under.total {
+    for made in 0..NODE_ROUNDS {
+        if node.bound >= upper.total {
             break;
         }
-        let bound = round_in_part(under.base, part.decisions.as_slice(), floor, meter);
-        part.floor = part.floor.max(bound);
-        move_in_part(case, part.decisions.as_slice(), made, PART_ROUNDS, floor);
+        let bound = round_in_node(upper.base, node.decisions.as_slice(), bounds, meter);
+        node.bound = node.bound.max(bound);
+        move_in_node(case, node.decisions.as_slice(), made, NODE_ROUNDS, bounds);
     }
 }
 
-/// The floor by the worths under the rosters of a part. Each nurse's cheapest row is counted, and kept among those that were seen.
-fn round_in_part<T: RowTables>(
+/// The lower bound by the dual prices for the rosters of a node. The cover counts each nurse's cheapest row,
+/// and the pool keeps it.
+fn round_in_node<T: SearchesRows>(
     base: &Base<'_>,
-    part: &[Decision],
-    workspace: &mut FloorWorkspace<T>,
+    node: &[Decision],
+    workspace: &mut BoundWorkspace<T>,
     meter: &mut Meter,
 ) -> u64
-    requires fits { FitsFloor base.now.case.now workspace.old }
+    requires fits { FitsBound base.now.case.now workspace.old }
     requires room { meter.old + nurse_count base.now.case.now * greatest_extension_count
         base.now.case.now ≤ greatest_u64 }
-    ensures below { IsLowerBoundIn base.now.case.now base.now.from base.now.given.now part.now
+    ensures below { IsLowerBoundIn base.now.case.now base.now.from base.now.given.now node.now
         result }
     ensures grows { meter.old ≤ meter.new }
     ensures counted { meter.new ≤ meter.old + nurse_count base.now.case.now
         * greatest_extension_count base.now.case.now }
-    ensures fits { FitsFloor base.now.case.now workspace.new }
+    ensures fits { FitsBound base.now.case.now workspace.new }
 {
     let terms = Terms {
         case: base.case,
-        worths: &workspace.worths,
+        dual_prices: &workspace.dual_prices,
         given: base.given,
         from: base.from,
     };
     lower_bound_in(
         &terms,
-        part,
+        node,
         &mut workspace.rows,
-        &mut workspace.seen,
+        &mut workspace.pool,
         meter,
     )
 }

@@ -3,7 +3,8 @@ use Rattle.std.specs.Prelude.{ℕ, List, [], ◌∷◌, ◌++◌, Option, option
 use Rattle.std.specs.List.{flat_map, filter_map, range_with_len}
 use Rattle.std.specs.Option.{option_map_or}
 
--- one week's solution: its scenario's name, how many nurses there are, and by number each nurse's name and its shift and skill on a weekday, where it works
+-- one week's solution: its scenario's name, the number of nurses, and by number each nurse's name and, on
+-- each weekday, the shift and the skill that the nurse works, if any
 pub record Shown : Type 0 where
   pub week : ℕ
   pub name : List ℕ
@@ -18,11 +19,12 @@ pub record Assignment : Type 0 where
   pub shift : List ℕ
   pub skill : List ℕ
 
--- an assignment by its parts
+-- an assignment, from its four fields
 abbrev pub assignment : List ℕ → ℕ → List ℕ → List ℕ → Assignment
-assignment nurse weekday shift skill = record { nurse = nurse; weekday = weekday; shift = shift; skill = skill }
+assignment nurse weekday shift skill =
+    record { nurse = nurse; weekday = weekday; shift = shift; skill = skill }
 
--- the assignment of a nurse on a weekday, where there is one
+-- the assignment of a nurse on a weekday, if there is one
 abbrev pub assignment_on : Shown → ℕ → ℕ → Option Assignment
 assignment_on s n weekday =
     option_map (λ work. assignment (s.nurse n) weekday work.0 work.1) (s.on n weekday)
@@ -38,28 +40,31 @@ assignments s = flat_map (nurse_assignments s) (range_with_len 0 s.nurses)
 -- a weekday in three letters; 0 is Monday
 abbrev pub weekday_text : ℕ → List ℕ
 weekday_text weekday = slice_index_or
-    (codes "Mon" ∷ codes "Tue" ∷ codes "Wed" ∷ codes "Thu" ∷ codes "Fri" ∷ codes "Sat" ∷ codes "Sun" ∷ []) weekday []
+    (codes "Mon" ∷ codes "Tue" ∷ codes "Wed" ∷ codes "Thu" ∷ codes "Fri" ∷ codes "Sat" ∷ codes "Sun"
+    ∷ []) weekday []
 
 -- a line of four words
 abbrev pub line_text : List ℕ → List ℕ → List ℕ → List ℕ → List ℕ
-line_text nurse day shift skill = nurse ++ codes " " ++ day ++ codes " " ++ shift ++ codes " " ++ skill ++ codes "\n"
+line_text nurse day shift skill =
+    nurse ++ codes " " ++ day ++ codes " " ++ shift ++ codes " " ++ skill ++ codes "\n"
 
 -- the line of an assignment
 unfoldable pub assignment_line : Assignment → List ℕ
 assignment_line a = line_text a.nurse (weekday_text a.weekday) a.shift a.skill
 
--- what stands before the lines
+-- the lines before those of the assignments
 unfoldable pub heading : Shown → List ℕ
 heading s =
-    codes "SOLUTION\n" ++ decimal s.week ++ codes " " ++ s.name ++ codes "\n\nASSIGNMENTS = " ++ decimal (length (assignments s)) ++ codes "\n"
+    codes "SOLUTION\n" ++ decimal s.week ++ codes " " ++ s.name ++ codes "\n\nASSIGNMENTS = "
+    ++ decimal (length (assignments s)) ++ codes "\n"
 
--- the one text of a solution
+-- the canonical text of a solution
 unfoldable pub canonical : Shown → List ℕ
 canonical s = heading s ++ flat_map assignment_line (assignments s)
 
 -- ---- the lines as they are written, day by day
 
--- the line of a nurse's weekday, where the nurse works
+-- the line of a nurse's weekday, empty if the nurse is off
 unfoldable pub line_on : Shown → ℕ → ℕ → List ℕ
 line_on s n weekday = option_map_or assignment_line (assignment_on s n weekday) []
 

@@ -1,5 +1,5 @@
--- The small numbers of a bundle: each that stands in a pair, a contract or a history line is from 0 to 999 (the format;
--- the range is our profile).
+-- The numbers in pairs, contracts and history lines of a bundle are from 0 to 999 (the format; the range is
+-- our profile).
 use Rattle.std.specs.Prelude.{◌≤◌, All}
 use Rattle.roster_bundle.specs.declared.bundle.Bundle.{Bundle}
 use Rattle.roster_bundle.specs.declared.bundle.Contract.{Contract}
@@ -16,7 +16,7 @@ pub record IsSmallPair (p : Pair) : Type 0 where
   pub least : p.least ≤ most_small
   pub greatest : p.greatest ≤ most_small
 
--- the numbers of a contract, but for the flag
+-- the numbers of a contract, except the flag
 pub record IsSmallContract (c : Contract) : Type 0 where
   pub total : IsSmallPair c.total
   pub working : IsSmallPair c.working
@@ -45,7 +45,7 @@ pub record AreSmallPairs (w : WeekPairs) : Type 0 where
 abbrev pub AreSmallNeeds : WeekData → Type 0
 AreSmallNeeds w = All (λ (r : Requirement). AreSmallPairs r.days) w.requirements
 
--- all of a bundle
+-- all small numbers of a bundle
 pub record SaysSmallNumbers (b : Bundle) : Type 0 where
   pub runs : All (λ (s : ShiftType). IsSmallPair s.run) b.scenario.shifts.items
   pub contracts : All IsSmallContract b.scenario.contracts.items

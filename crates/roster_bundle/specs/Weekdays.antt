@@ -13,7 +13,7 @@ short days.Friday = codes "Fri"
 short days.Saturday = codes "Sat"
 short days.Sunday = codes "Sun"
 
--- a day written out
+-- a day's full name
 abbrev pub long : Day → List ℕ
 long days.Monday = codes "Monday"
 long days.Tuesday = codes "Tuesday"

@@ -47,7 +47,7 @@ impl Day {
         }
     }
 
-    /// The day written out, which is read too.
+    /// The day's full name, which is accepted as well.
     pub fn long(self) -> &'static str
         ensures { result.now ≡ long self }
     {
@@ -96,7 +96,7 @@ impl<T> Items<T> {
         self.items.as_slice()
     }
 
-    /// How many there are.
+    /// The number of items.
     pub fn len(&self) -> usize
         ensures { result ≡ length self.now }
     {
@@ -110,14 +110,14 @@ impl<T> Items<T> {
     }
 }
 
-/// A number with the place where it stands.
+/// A number, and the token that it was read from.
 #[derive(Clone, Copy)]
 pub struct Number {
     pub token: Token,
     pub value: u32,
 }
 
-/// A section that begins with the count of its items, and where that count stands.
+/// A section that begins with the count of its items; the count keeps its token.
 pub struct Listed<T> {
     pub count: Token,
     pub items: Items<T>,
@@ -150,7 +150,8 @@ pub struct Succession {
     pub forbidden: Items<Token>,
 }
 
-/// What a contract asks for: assignments, days in a row of work and of free time, worked weekends, whole weekends.
+/// What a contract asks for: the numbers of assignments, of days in a row of work and of days off, of worked
+/// weekends, and whether weekends are to be complete.
 #[derive(Clone, Copy)]
 pub struct Contract {
     pub name: Token,
@@ -158,7 +159,7 @@ pub struct Contract {
     pub working: Pair,
     pub free: Pair,
     pub weekends: u16,
-    /// 1 where a weekend is to be worked whole or not at all, else 0.
+    /// 1 if a weekend is to be worked whole or not at all, else 0.
     pub complete_weekends: u16,
 }
 
@@ -256,11 +257,11 @@ pub struct WeekData {
     pub scenario: Token,
     pub requirements: Items<Requirement>,
     pub off_requests: Listed<Request>,
-    /// The wishes to work, where the week has their section.
+    /// The wishes to work, if the week has that section.
     pub on_requests: Option<Listed<Request>>,
-    /// The absences, where the week has their section.
+    /// The absences, if the week has that section.
     pub absences: Option<Listed<NurseDay>>,
-    /// The days whose choice stays as the solution has it, where the week has their section.
+    /// The days whose choice stays as the solution has it, if the week has that section.
     pub fixed_days: Option<Listed<NurseDay>>,
 }
 
@@ -289,7 +290,8 @@ pub struct Bundle {
     pub solutions: Items<Solution>,
 }
 
-// By hand, so that who drops a bundle has one call to prove and not the drops of all its parts.
+// Written by hand, so that a function that drops a bundle has one call to prove, not the drops of all its
+// fields.
 impl Drop for Bundle {
     fn drop(self) {
         let Bundle {
@@ -302,7 +304,7 @@ impl Drop for Bundle {
 }
 
 impl Bundle {
-    /// How many weeks there are.
+    /// The number of weeks.
     pub fn weeks(&self) -> usize
         ensures { result ≡ length self.now.week_data }
     {

@@ -1,4 +1,4 @@
-//! What the four texts of an instance say, place by place, and what a solution shows.
+//! What the four texts of an instance say, item by item, and the view of a solution that is written.
 #![tactic(auto)]
 
 mod bundle;

@@ -15,7 +15,7 @@ pub struct Token {
 impl Token {
     ghost use Rattle.roster_bundle.specs.Token.{text_of};
 
-    /// The bytes of the token in its source. What of it lies after the end of the source is left out.
+    /// The bytes of the token in its source, cut off at the end of the source.
     pub fn text(self, source: &[u8]) -> &[u8]
         ensures { result.now ≡ text_of source.now self }
     {

@@ -1,11 +1,11 @@
-//! What a solution has to show so that it can be written.
+//! What is needed of a solution to write it.
 
 ghost use Rattle.std.specs.Prelude.{◌≡◌, ◌<◌, option_map};
 ghost use Rattle.roster_bundle.specs.Canonical.{Shown};
 
-/// One week's solution, by the numbers of its nurses and of the weekdays, 0 being Monday.
+/// One week's solution, by the numbers of its nurses and of the weekdays; 0 is Monday.
 pub trait SolutionView {
-    // All that the methods below answer.
+    // Everything that the methods below return.
     ghost shown: { Self → Shown };
 
     /// The week's number, from 0.
@@ -16,7 +16,7 @@ pub trait SolutionView {
     fn name(&self) -> &[u8]
         ensures { result.now ≡ (shown self.now).name };
 
-    /// How many nurses there are.
+    /// The number of nurses.
     fn nurses(&self) -> usize
         ensures { result ≡ (shown self.now).nurses };
 
@@ -25,7 +25,7 @@ pub trait SolutionView {
         requires { nurse < (shown self.now).nurses }
         ensures { result.now ≡ (shown self.now).nurse nurse };
 
-    /// The names of the shift and the skill that a nurse works on a weekday, if it does.
+    /// The names of the shift and the skill that a nurse works on a weekday, if any.
     fn on(&self, nurse: usize, weekday: u16) -> Option<(&[u8], &[u8])>
         requires nurse { nurse < (shown self.now).nurses }
         requires weekday { weekday < 7 }

@@ -1,4 +1,4 @@
--- A row's day, by the choice and the shift before it.
+-- One day of a row, by its choice and the shift before it.
 use Rattle.std.proofs.Common.{◌≡◌, ◌∙◌, ◌&&◌, ℕ, Bool, not, ap, Option}
 use Rattle.roster_instance.specs.declared.choice.Choice.{Choice}
 use Rattle.roster_instance.specs.declared.choice.Shift.{Shift}

@@ -1,4 +1,4 @@
--- What a held roster's counts add up to.
+-- What the counts of a held roster add up to.
 use Rattle.std.proofs.Common.{◌≡◌, ◌∙◌, ◌+◌, ◌==◌, ℕ, ap, arith, length, slice_index_or, if◌then◌else◌}
 use Rattle.roster_instance.specs.Counting.{sum_below}
 use Rattle.roster_instance.specs.Meaning.{Meaning, nurse_count}

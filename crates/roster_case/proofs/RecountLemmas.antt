@@ -1,4 +1,4 @@
--- One day's counts more have the other row in them, and what is lacking since.
+-- The row is replaced in the counts of one more day, and the change of the shortfall is updated.
 use Rattle.std.proofs.Common.{◌≡◌, ◌∙◌, ◌+◌, ◌-◌, ◌*◌, ◌<◌, ◌≤◌, ◌⊎◌, ℕ, suc, inl, inr, ap, arith, subst, sym, List, length, slice_index_or, slice_set}
 use Rattle.std.proofs.lemmas.Bool.{cases_eq}
 use Rattle.std.proofs.lemmas.List.{get_or-set_other, get_or-set_same}
@@ -11,15 +11,15 @@ use Rattle.roster_instance.specs.Rosters.{Row, Rows, choice_on, cover, row_of, w
 use Rattle.roster_rules.specs.Covers.{AreCovers, IsTable}
 use Rattle.roster_rules.proofs.RunBounds.{sum_within}
 use Rattle.roster_laws.specs.OneRow.{others}
-use Rattle.roster_laws.specs.Staffing.{lacking, with_choice}
+use Rattle.roster_laws.specs.Staffing.{shortfall, with_choice}
 use Rattle.roster_case.specs.declared.counts.DayCounts.{DayCounts}
 use Rattle.roster_case.specs.Held.{IsDay, no_day}
 use Rattle.roster_case.proofs.DayTableLemmas.{cover-parts}
 use Rattle.roster_laws.proofs.OneRow.{cover-with_row}
 
--- how many nurses a day can lack
-pub lacking_within : (c : Meaning) (d : ℕ) (have : ℕ → ℕ → ℕ) → HasSmallNumbers c → shift_count c ≤ most_shifts → skill_count c ≤ most_skills → lacking c (optimum c d) have ≤ most_shifts * most_skills * most_small
-lacking_within c d have small shifts skills = omega (arith, sum_within (shift_count c) (most_skills * most_small) of_shift (λ s h. shift s))
+-- a bound for the shortfall of a day
+pub shortfall_within : (c : Meaning) (d : ℕ) (have : ℕ → ℕ → ℕ) → HasSmallNumbers c → shift_count c ≤ most_shifts → skill_count c ≤ most_skills → shortfall c (optimum c d) have ≤ most_shifts * most_skills * most_small
+shortfall_within c d have small shifts skills = omega (arith, sum_within (shift_count c) (most_skills * most_small) of_shift (λ s h. shift s))
   where
     missing_at : ℕ → ℕ → ℕ
     missing_at s k = optimum c d s k - have s k
@@ -27,11 +27,11 @@ lacking_within c d have small shifts skills = omega (arith, sum_within (shift_co
     of_shift : ℕ → ℕ
     of_shift s = sum_below (skill_count c) (missing_at s)
 
-    place : (s k : ℕ) → missing_at s k ≤ most_small
-    place s k = omega (arith, (small.needs d s k).optimum)
+    slot : (s k : ℕ) → missing_at s k ≤ most_small
+    slot s k = omega (arith, (small.needs d s k).optimum)
 
     shift : (s : ℕ) → of_shift s ≤ most_skills * most_small
-    shift s = omega (arith, sum_within (skill_count c) most_small (missing_at s) (λ k h. place s k))
+    shift s = omega (arith, sum_within (skill_count c) most_small (missing_at s) (λ k h. slot s k))
 
 module _ (r : Rows) (n : ℕ) (within : n < length r) (row : Row) (day : ℕ) (old new : Choice) (old_is : old ≡ choice_on (row_of r n) day) (new_is : new ≡ choice_on row day) where
   cover-old : (s k : ℕ) → cover r day s k ≡ with_choice (others r n day) old s k
@@ -44,32 +44,32 @@ module _ (r : Rows) (n : ℕ) (within : n < length r) (row : Row) (day : ℕ) (o
     own_table : IsTable (with_choice (others r n day) old) was
     own_table s k s_in k_in = covered s k s_in k_in ∙ cover-old s k
 
-    -- what is lacking on the day
-    module _ (c : Meaning) (fewer more : ℕ) (step : (have : ℕ → ℕ → ℕ) → IsTable (with_choice have old) was → lacking c (optimum c day) (with_choice have new) + fewer ≡ lacking c (optimum c day) (with_choice have old) + more) where
-      abbrev lacks_new : ℕ → ℕ
-      lacks_new d = lacking c (optimum c d) (cover (with_row r n row) d)
+    -- the shortfall of the day
+    module _ (c : Meaning) (fewer more : ℕ) (step : (have : ℕ → ℕ → ℕ) → IsTable (with_choice have old) was → shortfall c (optimum c day) (with_choice have new) + fewer ≡ shortfall c (optimum c day) (with_choice have old) + more) where
+      abbrev shortfall_new : ℕ → ℕ
+      shortfall_new d = shortfall c (optimum c d) (cover (with_row r n row) d)
 
-      abbrev lacks_old : ℕ → ℕ
-      lacks_old d = lacking c (optimum c d) (cover r d)
+      abbrev shortfall_old : ℕ → ℕ
+      shortfall_old d = shortfall c (optimum c d) (cover r d)
 
-      lacks_here : lacks_new day + fewer ≡ lacks_old day + more
-      lacks_here =
-          let new_by : lacks_new day ≡ lacking c (optimum c day) (with_choice (others r n day) new) = λ i. lacking c (optimum c day) (λ s k. cover-new s k i) in
-          let old_by : lacks_old day ≡ lacking c (optimum c day) (with_choice (others r n day) old) = λ i. lacking c (optimum c day) (λ s k. cover-old s k i) in
+      shortfall_here : shortfall_new day + fewer ≡ shortfall_old day + more
+      shortfall_here =
+          let new_by : shortfall_new day ≡ shortfall c (optimum c day) (with_choice (others r n day) new) = λ i. shortfall c (optimum c day) (λ s k. cover-new s k i) in
+          let old_by : shortfall_old day ≡ shortfall c (optimum c day) (with_choice (others r n day) old) = λ i. shortfall c (optimum c day) (λ s k. cover-old s k i) in
           omega (arith, step (others r n day) own_table, new_by, old_by)
 
-      pub lacks_more : (all_fewer all_more : ℕ) → sum_below day lacks_new + all_fewer ≡ sum_below day lacks_old + all_more → sum_below (day + 1) lacks_new + (all_fewer + fewer) ≡ sum_below (day + 1) lacks_old + (all_more + more)
-      lacks_more all_fewer all_more before =
+      pub shortfall_more : (all_fewer all_more : ℕ) → sum_below day shortfall_new + all_fewer ≡ sum_below day shortfall_old + all_more → sum_below (day + 1) shortfall_new + (all_fewer + fewer) ≡ sum_below (day + 1) shortfall_old + (all_more + more)
+      shortfall_more all_fewer all_more before =
           let one : day + 1 ≡ suc day = omega arith in
-          omega (arith, before, lacks_here, ap (λ m. sum_below m lacks_new) one, ap (λ m. sum_below m lacks_old) one)
+          omega (arith, before, shortfall_here, ap (λ m. sum_below m shortfall_new) one, ap (λ m. sum_below m shortfall_old) one)
 
       -- the counts of the day
       module _ (counts : DayCounts) (table : (have : ℕ → ℕ → ℕ) → IsTable (with_choice have old) was → IsTable (with_choice have new) counts.covers)
-          (before : ℕ) (before_is : before ≡ lacks_old day) (kept : counts.lacking ≡ before + more - fewer) where
+          (before : ℕ) (before_is : before ≡ shortfall_old day) (kept : counts.shortfall ≡ before + more - fewer) where
         new_day : IsDay c (with_row r n row) day counts
         new_day = record {
           covers = λ s k s_in k_in. table (others r n day) own_table s k s_in k_in ∙ sym (cover-new s k);
-          lacks = omega (arith, kept, before_is, lacks_here);
+          is_short = omega (arith, kept, before_is, shortfall_here);
         }
 
         pub days_more : (days : List DayCounts) → day < length days → ((d : ℕ) → d < day → IsDay c (with_row r n row) d (slice_index_or days d no_day)) → (d : ℕ) → d < day + 1 → IsDay c (with_row r n row) d (slice_index_or (slice_set days day counts) d no_day)

@@ -12,7 +12,7 @@ abbrev pub work_shown : Meaning → Choice → Option (List ℕ × List ℕ)
 work_shown c Off = None
 work_shown c (Work s k) = Some (slice_index_or c.shift_names s.0 [], slice_index_or c.skill_names k.0 [])
 
--- what is written of week i: its number, and who works what on its seven days
+-- what is written of week i: its number, and what each nurse works on its seven days
 abbrev pub shown_week : Meaning → Rows → ℕ → Shown
 shown_week c r i = record {
   week = i;

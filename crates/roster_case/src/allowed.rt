@@ -1,4 +1,4 @@
-//! Whether a row may stand in the place of a nurse's.
+//! Whether a row may replace a nurse's row.
 
 ghost use Rattle.std.specs.Prelude.{◌≡◌, ◌<◌, ◌&&◌, not, nat_lt};
 ghost use Rattle.roster_instance.specs.Choices.{shift_of};
@@ -38,7 +38,7 @@ fn may_follow(held: &Held, nurse: usize, day: u16, last: Option<Shift>, choice: 
     is_open(held, nurse, day, choice) && !held.case().forbids_next(last, choice.shift())
 }
 
-/// Whether the nurse has the skill and isn't absent, and no minimum of the day is missed with the choice.
+/// Whether the nurse has the skill and isn't absent, and each minimum of the day is met with the choice.
 fn is_open(held: &Held, nurse: usize, day: u16, choice: Choice) -> bool
     requires nurse { nurse < nurse_count held.now.case }
     requires day { day < day_count held.now.case }
@@ -65,7 +65,7 @@ fn meets(held: &Held, nurse: usize, day: u16, choice: Choice) -> bool
     true
 }
 
-/// Whether the minimum of a shift and skill is met.
+/// Whether the minimum of a slot is met.
 fn meets_at(held: &Held, nurse: usize, day: u16, choice: Choice, shift: Shift, skill: Skill) -> bool
     requires nurse { nurse < nurse_count held.now.case }
     requires day { day < day_count held.now.case }

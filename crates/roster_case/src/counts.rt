@@ -1,4 +1,4 @@
-//! What is kept of a roster that keeps the hard rules.
+//! The counts that are kept of a roster which keeps the hard rules.
 
 ghost use Rattle.std.specs.Prelude.{◌≡◌, ◌+◌, ◌*◌, ◌<◌, ◌≤◌, ◌==◌, ℕ, true, IfOk, if◌then◌else◌, length, slice_index_or};
 ghost use Rattle.roster_instance.specs.Counting.{sum_below};
@@ -7,26 +7,26 @@ ghost use Rattle.roster_instance.specs.Meaning.{day_count, nurse_count};
 ghost use Rattle.roster_instance.specs.Rosters.{days_of_nurse, fits_case, is_row_of, with_row};
 ghost use Rattle.roster_rules.specs.Covers.{number_at};
 ghost use Rattle.roster_rules.specs.Penalties.{nurse_cost, staffing_cost};
-ghost use Rattle.roster_rules.specs.Room.{most_staffing};
+ghost use Rattle.roster_rules.specs.PenaltyBounds.{most_staffing};
 ghost use Rattle.roster_case.specs.Held.{AreCounts, IsDay, no_day};
 
 use crate::recount::recount;
-use roster_costs::{covers, nurse_cost, place, staffing_cost_of_day};
+use roster_costs::{covers, nurse_cost, slot, staffing_cost_of_day};
 use roster_instance::{Case, Choice, Roster, Shift, Skill};
 use roster_rules::weights::STAFFING;
 use std::alloc::{AllocError, Global};
 
-/// What is counted of a day.
+/// The counts of a day.
 #[derive(Clone, Copy)]
 pub(crate) struct DayCounts {
-    /// How many nurses work, with a number at the place of each shift and skill.
+    /// The cover of each slot, by its index.
     pub(crate) covers: [u16; 64],
-    /// How many nurses are lacking to the optimums, over all shifts and skills.
-    pub(crate) lacking: u32,
+    /// By how many nurses the day is short of its optimums, over all slots.
+    pub(crate) shortfall: u32,
 }
 
-/// How many nurses each day, shift and skill has and how many each day lacks, and what each nurse and the staffing cost, in penalty
-/// points.
+/// The cover of each slot of each day, by how many nurses each day is short of its optimums, and what each
+/// nurse and the staffing cost, in penalty points.
 pub(crate) struct Counts {
     pub(crate) days: Vec<DayCounts>,
     /// What each nurse's row costs apart from staffing.
@@ -34,7 +34,7 @@ pub(crate) struct Counts {
     pub(crate) staffing_cost: u64,
 }
 
-// By hand, so that who drops the counts has one call to prove.
+// Written by hand, so that a function that drops the counts has one call to prove.
 impl Drop for Counts {
     fn drop(self) {
         let Counts {
@@ -46,7 +46,7 @@ impl Drop for Counts {
 }
 
 impl Counts {
-    /// The counts of a roster, by two growths.
+    /// The counts of a roster, with two allocations.
     pub(crate) fn of(alloc: Global, case: &Case, roster: &Roster) -> Result<Counts, AllocError>
         requires { fits_case case.now roster.now ≡ true }
         ensures { IfOk result (AreCounts case.now roster.now) }
@@ -59,22 +59,22 @@ impl Counts {
         })
     }
 
-    /// How many nurses work a shift with a skill on a day.
+    /// How many nurses work in a slot.
     pub(crate) fn cover(&self, day: u16, shift: Shift, skill: Skill) -> u16
         requires day { day < length self.now.days.items }
-        requires place { shift.0 < 8 × skill.0 < 8 }
+        requires slot { shift.0 < 8 × skill.0 < 8 }
         ensures { result ≡ number_at (slice_index_or self.now.days.items day no_day).covers shift.0
             skill.0 }
     {
-        self.days[day as usize].covers[place(shift, skill)]
+        self.days[day as usize].covers[slot(shift, skill)]
     }
 
-    /// How many nurses are lacking to the optimums of a day.
-    pub(crate) fn lacking(&self, day: u16) -> u32
+    /// By how many nurses a day is short of its optimums.
+    pub(crate) fn shortfall(&self, day: u16) -> u32
         requires { day < length self.now.days.items }
-        ensures { result ≡ (slice_index_or self.now.days.items day no_day).lacking }
+        ensures { result ≡ (slice_index_or self.now.days.items day no_day).shortfall }
     {
-        self.days[day as usize].lacking
+        self.days[day as usize].shortfall
     }
 
     /// What the rows of all nurses but one cost.
@@ -94,7 +94,7 @@ impl Counts {
         cost
     }
 
-    /// What the rows and the staffing cost.
+    /// What all rows and the staffing cost.
     #[tactic(auto, using(roster_rules::proofs::CountLemmas::sum_more))]
     pub(crate) fn total(&self) -> u64
         requires nurses { length self.now.nurse_costs.items ≤ most_nurses }
@@ -110,7 +110,7 @@ impl Counts {
         self.staffing_cost + cost
     }
 
-    /// Counts a row in the place of a nurse's, by that row alone.
+    /// Replaces a nurse's row in the counts, looking at that nurse's row alone.
     pub(crate) fn replace_row(&mut self, case: &Case, roster: &Roster, nurse: usize, row: &[Choice])
         requires fitting { fits_case case.now roster.now ≡ true }
         requires nurse { nurse < nurse_count case.now }
@@ -145,8 +145,8 @@ fn staffing_of(
     for day in 0..case.days() {
         let covers = covers(case, roster, day);
         let cost_of_day = staffing_cost_of_day(case, day, &covers);
-        let lacking = (cost_of_day / STAFFING as u64) as u32;
-        days.push(DayCounts { covers, lacking })?;
+        let shortfall = (cost_of_day / STAFFING as u64) as u32;
+        days.push(DayCounts { covers, shortfall })?;
         cost += cost_of_day;
     }
     Ok((days, cost))

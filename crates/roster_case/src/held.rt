@@ -7,10 +7,10 @@ ghost use Rattle.roster_instance.specs.Rosters.{cover, fits_case, row_of, with_r
 ghost use Rattle.roster_rules.specs.AllowedRows.{row_keeps};
 ghost use Rattle.roster_rules.specs.HardRules.{hard_faults, keeps_hard};
 ghost use Rattle.roster_rules.specs.Penalties.{costs_of, penalty, total_cost};
-ghost use Rattle.roster_rules.specs.Room.{most_staffing, penalty_room};
+ghost use Rattle.roster_rules.specs.PenaltyBounds.{most_staffing, penalty_limit};
 ghost use Rattle.roster_case.specs.Held.{IsHandedBack};
 ghost use Rattle.roster_laws.specs.OneRow.{others, rest_of};
-ghost use Rattle.roster_laws.specs.Staffing.{lacking};
+ghost use Rattle.roster_laws.specs.Staffing.{shortfall};
 
 use crate::allowed::is_open_row;
 use crate::counts::Counts;
@@ -22,15 +22,17 @@ use std::fmt::{self, Debug, Formatter};
 use std::marker::Model;
 use thiserror::Error;
 
-/// A case and a roster that keeps the hard rules, with its counts: how many nurses each day, shift and skill has, how many each
-/// day lacks, and what each nurse and the staffing cost. A replaced row changes the counts by that row alone, so nothing is counted anew.
+/// A case and a roster that keeps the hard rules, with its counts: the cover of each slot, by how many nurses
+/// each day is short of its optimums, and what each nurse and the staffing cost. A replaced row changes the
+/// counts by that row alone, so nothing is counted anew.
 pub struct Held {
     case: Case,
     roster: Roster,
     counts: Counts,
 }
 
-// By hand, so that who drops a held roster has one call to prove and not the drops of all its parts.
+// Written by hand, so that a function that drops a held roster has one call to prove, not the drops of all
+// its fields.
 impl Drop for Held {
     fn drop(self) {
         let Held {
@@ -57,12 +59,12 @@ pub enum HeldFault {
     /// The first breach of the hard rules.
     #[error("{0}")]
     Hard(HardFault, Case, Roster),
-    /// A growth was refused.
+    /// An allocation was refused.
     #[error("no memory")]
     Memory(Case, Roster),
 }
 
-// By hand, so that the reason is shown without the case and the roster.
+// Written by hand, so that the reason is shown without the case and the roster.
 impl Debug for HeldFault {
     fn fmt<W: fmt::Write>(&self, f: &mut Formatter<W>) -> fmt::Result {
         match self {
@@ -73,13 +75,13 @@ impl Debug for HeldFault {
 }
 
 impl Held {
-    /// Holds a roster of the case. The hard rules are looked at before any memory is taken. A meter of the search is made before,
-    /// of the case that is held here.
+    /// Holds a roster of the case. The hard rules are checked before any memory is taken. A meter of the
+    /// search has to be made before this, since it borrows the case mutably.
     ///
     /// # Errors
     ///
-    /// `Hard` where a hard rule is broken, with the first breach. `Memory` where a growth was refused. Both hand the case and
-    /// the roster back as they were.
+    /// `Hard` if a hard rule is broken, with the first breach. `Memory` if an allocation was refused. Both
+    /// hand the case and the roster back unchanged.
     pub fn new(alloc: Global, case: Case, roster: Roster) -> Result<Held, HeldFault>
         requires { fits_case case roster ≡ true }
         ensures held { IfOk result (λ held. held ≡ record { case = case; roster = roster }) }
@@ -132,7 +134,7 @@ impl Held {
         self.roster.row(nurse)
     }
 
-    /// How many of the other nurses work a shift with a skill on a day.
+    /// How many of the other nurses work in a slot.
     pub fn others(&self, nurse: usize, day: u16, shift: Shift, skill: Skill) -> u16
         requires nurse { nurse < nurse_count self.now.case }
         requires day { day < day_count self.now.case }
@@ -145,18 +147,19 @@ impl Held {
         self.counts.cover(day, shift, skill) - own as u16
     }
 
-    /// How many nurses a day lacks to its optimums, over all shifts and skills. It is known, and isn't counted anew.
-    pub fn lacking(&self, day: u16) -> u32
+    /// By how many nurses a day is short of its optimums, over all slots. The number is kept, so it isn't
+    /// counted anew.
+    pub fn shortfall(&self, day: u16) -> u32
         requires { day < day_count self.now.case }
-        ensures lacking { result ≡ lacking self.now.case (optimum self.now.case day)
+        ensures shortfall { result ≡ shortfall self.now.case (optimum self.now.case day)
             (cover self.now.roster day) }
         ensures within { result ≤ most_shifts * most_skills * most_small }
     {
         self.case.keeps_limits();
-        self.counts.lacking(day)
+        self.counts.shortfall(day)
     }
 
-    /// What the rows of all other nurses cost beside staffing, in penalty points.
+    /// What the rows of all other nurses cost apart from staffing, in penalty points.
     pub fn rest(&self, nurse: usize) -> u64
         requires { nurse < nurse_count self.now.case }
         ensures { result ≡ rest_of self.now.case self.now.roster nurse }
@@ -165,10 +168,10 @@ impl Held {
         self.counts.rest(nurse)
     }
 
-    /// What the roster costs by each soft rule. What the staffing costs is known, and isn't counted anew.
+    /// What the roster costs by each soft rule. The cost of the staffing is kept, so it isn't counted anew.
     pub fn costs(&self) -> Costs
         ensures costs { result ≡ costs_of self.now.case self.now.roster }
-        ensures within { total_cost result < penalty_room }
+        ensures within { total_cost result < penalty_limit }
         ensures staffing { result.s1 ≤ most_staffing }
     {
         costs_with(&self.case, &self.roster, self.counts.staffing_cost)
@@ -177,14 +180,14 @@ impl Held {
     /// The roster's penalty, below 2^33.
     pub fn total(&self) -> u64
         ensures total { result ≡ penalty self.now.case self.now.roster }
-        ensures within { result < penalty_room }
+        ensures within { result < penalty_limit }
     {
         self.case.keeps_limits();
         self.counts.total()
     }
 
-    /// Whether a row is one of the case's (as many choices as days, and shifts and skills in range), and the roster keeps the
-    /// hard rules with it in the place of the nurse's.
+    /// Whether a row is one of the case's (as many choices as days, and shifts and skills in range), and the
+    /// roster keeps the hard rules if it replaces the nurse's row.
     pub fn row_keeps(&self, nurse: usize, row: &[Choice]) -> bool
         requires { nurse < nurse_count self.now.case }
         ensures { result ≡ row_keeps self.now.case self.now.roster nurse row.now }
@@ -192,7 +195,7 @@ impl Held {
         row_fits(&self.case, row) && is_open_row(self, nurse, row)
     }
 
-    /// Puts a row in the place of a nurse's. The case stays.
+    /// Replaces a nurse's row. The case stays.
     pub fn replace_row(&mut self, nurse: usize, row: &[Choice])
         requires nurse { nurse < nurse_count self.old.case }
         requires keeps { row_keeps self.old.case self.old.roster nurse row.now ≡ true }
@@ -207,7 +210,7 @@ impl Held {
         self.roster.put_row(nurse, row);
     }
 
-    /// Puts the rows of a roster of the case in the place of all rows, and takes no memory. The case stays.
+    /// Replaces all rows by those of a roster of the case, without taking memory. The case stays.
     pub fn replace_rows(&mut self, rows: &Roster)
         requires fits { fits_case self.old.case rows.now ≡ true }
         requires keeps { keeps_hard self.old.case rows.now ≡ true }

@@ -1,9 +1,11 @@
-//! A roster that keeps the hard rules, with what it costs. It passes on what a caller needs to make and to read one.
+//! A roster that keeps the hard rules, with what it costs. The crate re-exports what a caller needs to make
+//! and to read one.
 //!
-//! What a held roster is, and that all that is kept of it is exact, is defined in `specs/Held.antt`; a week as it is written
-//! in `specs/Shown.antt`; what a row costs, and whether it keeps the hard rules in the place of a nurse's, in `roster_laws`.
-//! `Held::new` promises a roster that keeps the hard rules, or the first breach; `Held::row_keeps` and `Held::replace_row`
-//! which row may be put in, and what the roster is then; `Held::total` its penalty.
+//! `specs/Held.antt` defines what a held roster is, and that all its counts are exact; `specs/Shown.antt` a
+//! week as it is written; and `roster_laws` what a row costs, and whether it keeps the hard rules in the
+//! place of a nurse's. `Held::new` promises a roster that keeps the hard rules, or the first breach;
+//! `Held::row_keeps` and `Held::replace_row` say which row may replace a nurse's, and what the roster is
+//! then; `Held::total` is its penalty.
 #![tactic(auto)]
 
 mod allowed;

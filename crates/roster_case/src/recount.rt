@@ -1,4 +1,4 @@
-//! The counts of all days, with one row in the place of another.
+//! The counts of all days after one row replaces another.
 
 ghost use Rattle.std.specs.Prelude.{◌≡◌, ◌+◌, ◌-◌, ◌*◌, ◌<◌, ◌≤◌, ℕ, true, length, slice_index_or};
 ghost use Rattle.roster_instance.specs.Counting.{one_if};
@@ -8,22 +8,22 @@ ghost use Rattle.roster_instance.specs.Rosters.{fits_case, is_choice_of, is_row_
 ghost use Rattle.roster_rules.specs.Covers.{IsTable, number_at};
 ghost use Rattle.roster_rules.specs.Penalties.{staffing_cost};
 ghost use Rattle.roster_rules.specs.Weights.{staffing_weight};
-ghost use Rattle.roster_case.specs.DayTables.{HasPlace, IsCounted, lacks_with};
+ghost use Rattle.roster_case.specs.DayTables.{HasSlot, IsCounted, shortfall_with};
 ghost use Rattle.roster_case.specs.Held.{IsDay, no_day};
-ghost use Rattle.roster_laws.specs.Staffing.{lacking, with_choice};
+ghost use Rattle.roster_laws.specs.Staffing.{shortfall, with_choice};
 
 use crate::counts::DayCounts;
-use roster_costs::place;
+use roster_costs::slot;
 use roster_instance::{Case, Choice, Roster};
 
-/// How many nurses more, and how many fewer, are lacking to the optimums.
+/// By how many nurses the slots are short of their optimums more than before, and by how many fewer.
 #[derive(Clone, Copy, Default)]
 pub(crate) struct Change {
     pub(crate) more: u64,
     pub(crate) fewer: u64,
 }
 
-/// Counts a row in the place of a nurse's, and says what is lacking since.
+/// Replaces a nurse's row in the counts, and returns the change of the shortfall.
 pub(crate) fn recount(
     case: &Case,
     roster: &Roster,
@@ -58,7 +58,7 @@ pub(crate) fn recount(
     change
 }
 
-/// One day's counts with one choice in the place of another.
+/// Replaces one choice by another in one day's counts.
 fn exchange_on_day(
     case: &Case,
     day: u16,
@@ -71,22 +71,22 @@ fn exchange_on_day(
     requires numbers { (s k : ℕ) → s < most_shifts → k < most_skills →
         number_at counts.old.covers s k < u16.MAX }
     requires counted { IsCounted counts.old.covers old }
-    requires few { counts.old.lacking ≤ most_shifts * most_skills * most_small }
+    requires few { counts.old.shortfall ≤ most_shifts * most_skills * most_small }
     ensures table { (have : ℕ → ℕ → ℕ) → IsTable (with_choice have old) counts.old.covers →
         IsTable (with_choice have new) counts.new.covers }
-    ensures lacking { (have : ℕ → ℕ → ℕ) → IsTable (with_choice have old) counts.old.covers →
-        lacks_with case.now day have new + result.fewer
-        ≡ lacks_with case.now day have old + result.more }
-    ensures kept { counts.new.lacking ≡ counts.old.lacking + result.more - result.fewer }
+    ensures shortfall { (have : ℕ → ℕ → ℕ) → IsTable (with_choice have old) counts.old.covers →
+        shortfall_with case.now day have new + result.fewer
+        ≡ shortfall_with case.now day have old + result.more }
+    ensures kept { counts.new.shortfall ≡ counts.old.shortfall + result.more - result.fewer }
     ensures more { result.more ≤ 1 }
     ensures fewer { result.fewer ≤ 1 }
 {
     let change = exchange(case, day, &mut counts.covers, old, new);
-    counts.lacking = (counts.lacking + change.more as u32).saturating_sub(change.fewer as u32);
+    counts.shortfall = (counts.shortfall + change.more as u32).saturating_sub(change.fewer as u32);
     change
 }
 
-/// One day's table with one choice in the place of another.
+/// Replaces one choice by another in one day's table.
 fn exchange(case: &Case, day: u16, table: &mut [u16; 64], old: Choice, new: Choice) -> Change
     requires old { is_choice_of case.now old ≡ true }
     requires new { is_choice_of case.now new ≡ true }
@@ -95,60 +95,60 @@ fn exchange(case: &Case, day: u16, table: &mut [u16; 64], old: Choice, new: Choi
     requires counted { IsCounted table.old old }
     ensures table { (have : ℕ → ℕ → ℕ) → IsTable (with_choice have old) table.old →
         IsTable (with_choice have new) table.new }
-    ensures lacking { (have : ℕ → ℕ → ℕ) → IsTable (with_choice have old) table.old →
-        lacks_with case.now day have new + result.fewer
-        ≡ lacks_with case.now day have old + result.more }
+    ensures shortfall { (have : ℕ → ℕ → ℕ) → IsTable (with_choice have old) table.old →
+        shortfall_with case.now day have new + result.fewer
+        ≡ shortfall_with case.now day have old + result.more }
     ensures more { result.more ≤ 1 }
     ensures fewer { result.fewer ≤ 1 }
 {
     case.keeps_limits();
     take_away(table, old);
     let change = Change {
-        more: lacks(case, day, table, old) as u64,
-        fewer: lacks(case, day, table, new) as u64,
+        more: is_short(case, day, table, old) as u64,
+        fewer: is_short(case, day, table, new) as u64,
     };
     put(table, new);
     change
 }
 
-/// Whether one nurse more with this choice would be one less lacking to the optimum.
-fn lacks(case: &Case, day: u16, table: &[u16; 64], choice: Choice) -> bool
+/// Whether one more nurse with this choice would make the day short by one less.
+fn is_short(case: &Case, day: u16, table: &[u16; 64], choice: Choice) -> bool
     requires { is_choice_of case.now choice ≡ true }
     ensures { (have : ℕ → ℕ → ℕ) → IsTable have table.now →
-        lacks_with case.now day have choice + one_if result
-        ≡ lacking case.now (optimum case.now day) have }
+        shortfall_with case.now day have choice + one_if result
+        ≡ shortfall case.now (optimum case.now day) have }
 {
     case.keeps_limits();
     match choice {
         Choice::Off => false,
         Choice::Work(shift, skill) => {
-            table[place(shift, skill)] < case.need(day, shift, skill).optimum
+            table[slot(shift, skill)] < case.need(day, shift, skill).optimum
         }
     }
 }
 
-/// One nurse more with this choice.
+/// Counts one more nurse with this choice.
 fn put(table: &mut [u16; 64], choice: Choice)
-    requires place { HasPlace choice }
+    requires slot { HasSlot choice }
     requires numbers { (s k : ℕ) → s < most_shifts → k < most_skills →
         number_at table.old s k < u16.MAX }
     ensures { (have : ℕ → ℕ → ℕ) → IsTable have table.old →
         IsTable (with_choice have choice) table.new }
 {
     if let Choice::Work(shift, skill) = choice {
-        table[place(shift, skill)] += 1;
+        table[slot(shift, skill)] += 1;
     }
 }
 
-/// One nurse less with this choice.
+/// Counts one nurse less with this choice.
 fn take_away(table: &mut [u16; 64], choice: Choice)
-    requires place { HasPlace choice }
+    requires slot { HasSlot choice }
     requires counted { IsCounted table.old choice }
     ensures table { (have : ℕ → ℕ → ℕ) → IsTable (with_choice have choice) table.old →
         IsTable have table.new }
     ensures fewer { (s k : ℕ) → s < 8 → k < 8 → number_at table.new s k ≤ number_at table.old s k }
 {
     if let Choice::Work(shift, skill) = choice {
-        table[place(shift, skill)] -= 1;
+        table[slot(shift, skill)] -= 1;
     }
 }

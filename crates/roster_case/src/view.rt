@@ -40,7 +40,7 @@ impl<'a> WeekView<'a> {
         WeekView { case, roster, week }
     }
 
-    /// The same of a held roster.
+    /// The same for a held roster.
     pub fn of_held(held: &'a Held, week: u16) -> WeekView<'a>
         requires { week < week_count held.now.case }
         ensures { result ≡ record { case = held.now.case; roster = held.now.roster; week = week } }

@@ -1,5 +1,6 @@
--- Which fault a failing reader or writer gives, and that each command has a report.
+-- Which fault a failing reader or writer causes, and that each command has a report.
 use Rattle.std.proofs.Common.{◌≡◌, ◌∙◌, ◌∷◌, [], ◌<◌, ℕ, arith, Err, None, Some, ap, length, lit<, refl, subst, false, true, Bool}
+use Rattle.std.specs.Borrow.{Bor}
 use Rattle.std.specs.Prelude.{Contains, IfSome, IsErrOf, option_map, string_bytes}
 use Rattle.roster_text.specs.Io.{IsReadFault, counted, is_read_failure}
 use Rattle.roster_bundle.specs.Limits.{most_bytes}
@@ -19,14 +20,14 @@ use Rattle.roster_request.specs.declared.request.Command.{Command}
 use Rattle.roster_request.specs.declared.request.Command.TheVariants as command
 use Rattle.roster_instance.specs.Rosters.{Rows, fits_case}
 use Rattle.roster_case.specs.Shown.{weeks_text}
-use Rattle.roster_bound.proofs.FloorLogs.{some_log}
+use Rattle.roster_bound.proofs.BoundLogLaws.{some_log}
 use Rattle.roster_rules.specs.Penalties.{penalty}
 use Rattle.roster_laws.proofs.Frozen.{stays_self}
 use Rattle.roster_costs.specs.Minimums.{missing}
 use Rattle.roster_polish.specs.Plans.{IsPlanned}
 use Rattle.roster_polish.specs.Polished.{first_run}
 use Rattle.roster_polish.proofs.KickLogs.{unkicked, unkicked_text}
-use Rattle.roster_answers.proofs.FloorReports.{of_floors}
+use Rattle.roster_answers.proofs.BoundReports.{of_bounds}
 use Rattle.roster_answers.proofs.WhoLemmas.{some_who}
 
 -- ---- statuses
@@ -49,8 +50,8 @@ status_listed (fault.Case (case.RepeatedRequirement line) nurse) = (1, lit< tt, 
 status_listed (fault.Case (case.Limit line) nurse) = (1, lit< tt, refl)
 status_listed (fault.Case (case.TooManyStates number name) nurse) = (1, lit< tt, refl)
 status_listed (fault.Case (case.H1 number day) nurse) = (1, lit< tt, refl)
-status_listed (fault.Hard f names) = (1, lit< tt, refl)
-status_listed (fault.Unfound f names) = (1, lit< tt, refl)
+status_listed (fault.Hard f d) = (1, lit< tt, refl)
+status_listed (fault.Unfound f d) = (1, lit< tt, refl)
 status_listed (fault.Unknown thing name) = (1, lit< tt, refl)
 status_listed fault.Memory = (3, lit< tt, refl)
 status_listed fault.Workspace = (3, lit< tt, refl)
@@ -79,16 +80,16 @@ pub no_kick : (searches from : ℕ) (alone : Bool) (c : Meaning) (r : Rows) → 
 no_kick searches from alone c r = record {
   settled = (first_run c from r).is_settled;
   last = (first_run c from r).roster;
-  told = unkicked_text c from (penalty c r) r;
+  log_text = unkicked_text c from (penalty c r) r;
   run = unkicked c from r (penalty c r) alone searches;
   is = refl;
 }
 
--- the given roster is one that a plan may leave
+-- a plan may leave the given roster
 pub planned_self : (c : Meaning) (from : ℕ) (r : Rows) → IsPlanned c from r r
 planned_self c from r = record { kept = λ e. refl; nearer = λ breaks rows. omega arith; stays = stays_self c from r }
 
--- and one of `plan`, from the nearest roster
+-- the same for a report of `plan`, from the nearest roster
 abbrev pub unplanned : (from : ℕ) → Rows → Meaning → Rows → Report
 unplanned from nearest c r = plan_report from nearest (first_run c from nearest).roster (unkicked_text c from (missing c r) nearest) c r
 
@@ -99,7 +100,7 @@ no_plan searches from alone c r nearest fits planned = record {
   planned = planned;
   settled = (first_run c from nearest).is_settled;
   last = (first_run c from nearest).roster;
-  told = unkicked_text c from (missing c r) nearest;
+  log_text = unkicked_text c from (missing c r) nearest;
   run = unkicked c from nearest (missing c r) alone searches;
   is = refl;
 }
@@ -111,7 +112,7 @@ some_report command.Cost c r = (cost_report c r, refl)
 some_report command.Sizes c r = (plain (sizes_text c), refl)
 some_report (command.Best nurse from keep) c r = (best_report (string_bytes nurse) from c r, refl)
 some_report (command.Improve rounds from keep) c r = (improve_report rounds from c r, refl)
-some_report (command.Bound rounds nodes from keep) c r = let some = some_log c from r (record { rounds = rounds; nodes = nodes }) in (bound_report some.0 c r, of_floors (record { rounds = rounds; nodes = nodes }) from c r some.0 some.1)
+some_report (command.Bound rounds nodes from keep) c r = let some = some_log c from r (record { rounds = rounds; nodes = nodes }) in (bound_report some.0 c r, of_bounds (record { rounds = rounds; nodes = nodes }) from c r some.0 some.1)
 some_report (command.Polish searches seed from alone keep) c r = (kickless from c r, no_kick (searches_for c searches) from alone c r)
 some_report (command.Who day shift skill from) c r = some_who (record { day = string_bytes day; shift = string_bytes shift; skill = option_map string_bytes skill }) from c r
 some_report (command.Plan searches seed from keep) c r = (unplanned from r c r, no_plan (searches_for c searches) from false c r r (λ e. e) (planned_self c from r))
@@ -123,45 +124,59 @@ refused_reading output log command source (fault.Case f nurse) h o l =
     let r = roster_of source h.bundle in
     let some = some_report command (case_for command (meaning_of source h.bundle) r) r in
     record { bundle = h.bundle; spelled = h.spelled; report = some.0; is = some.1; ends = h.refused; left = o; logged = l }
-refused_reading output log command source (fault.Hard f names) h o l = absurd h
-refused_reading output log command source (fault.Unfound f names) h o l = absurd h
+refused_reading output log command source (fault.Hard f d) h o l = absurd h
+refused_reading output log command source (fault.Unfound f d) h o l = absurd h
 refused_reading output log command source (fault.Unknown thing name) h o l = absurd h
 refused_reading output log command source fault.Memory h o l = absurd h
 refused_reading output log command source fault.Workspace h o l = absurd h
 refused_reading output log command source fault.Output h o l = absurd h
 refused_reading output log command source fault.Log h o l = absurd h
 
+-- an instance that was read, but there is no memory for the roster that a command keeps
+pub refused_keeping : {W L : Type 0} (output : Output W) (log : Output L) (command : Command) (source : Text) (i : Instance) → SpellsInstance source i → (nurse : Bor Text) → nurse.now ≡ [] → Untouched output → Untouched log
+    → Answers output log command source (Some (fault.Case case.Memory nurse))
+refused_keeping output log command source i says nurse none o l =
+    refused_reading output log command source (fault.Case case.Memory nurse) (record { bundle = says.bundle; spelled = says.spelled; refused = record { first = λ other. absurd (other refl); nurse_is = none } }) o l
+
 -- ---- an instance, once it is read
 
 module _ {W L : Type 0} (output : Output W) (log : Output L) (command : Command) (source : Text) (i : Instance) (says : SpellsInstance source i) where
-  roster_meant : i.roster ≡ roster_of source i.bundle
-  roster_meant = says.roster ∙ ap (λ m. rows_of source m i.bundle) says.case
+  abbrev meant : Meaning
+  meant = meaning_of source says.bundle
 
-  report_meant : (kept : Instance) → IsKeptAt i (keep_of command) kept → (p : Report) → IsReportIn command kept.case kept.roster p → IsAnswer command source i.bundle p
-  report_meant kept at p is =
-      let case_meant : kept.case ≡ keeping (meaning_of source i.bundle) (roster_of source i.bundle) (keep_of command) = at.case ∙ (λ j. keeping (says.case j) (roster_meant j) (keep_of command)) in
-      subst (λ m. IsReportIn command m (roster_of source i.bundle) p) case_meant (subst (λ r. IsReportIn command kept.case r p) (at.roster ∙ roster_meant) is)
+  abbrev rows : Rows
+  rows = roster_of source says.bundle
+
+  roster_meant : i.roster ≡ rows
+  roster_meant = says.roster ∙ ap (λ m. rows_of source m says.bundle) says.case
 
   -- the roster of the bundle fits its case
-  roster_fits : fits_case (meaning_of source i.bundle) (roster_of source i.bundle) ≡ true
-  roster_fits =
-      let roster = says.roster ∙ ap (λ m. rows_of source m i.bundle) says.case in
-      subst (λ m. fits_case m (roster_of source i.bundle) ≡ true) says.case (subst (λ r. fits_case i.case r ≡ true) roster i.fits)
+  roster_fits : fits_case meant rows ≡ true
+  roster_fits = subst (λ m. fits_case m rows ≡ true) says.case (subst (λ r. fits_case i.case r ≡ true) roster_meant i.fits)
 
-  module _ (p : Report) (is : IsAnswer command source i.bundle p) where
-    as_taken : (outcome : CommandEnd) → IsOutcomeOf p source i.bundle outcome → Leaves output p.output outcome → LeavesLog log p.log outcome → Answers output log command source outcome
-    as_taken None h o l = record { bundle = i.bundle; spelled = says.spelled; report = p; is = is; ends = record { taken = says.taken; fits = roster_fits; ends = h }; left = o; logged = l }
+  module _ (p : Report) (is : IsAnswer command source says.bundle p) where
+    as_taken : (outcome : CommandEnd) → IsOutcomeOf p (case_for command meant rows) outcome → Leaves output p.output outcome → LeavesLog log p.log outcome → Answers output log command source outcome
+    as_taken None h o l = record { bundle = says.bundle; spelled = says.spelled; report = p; is = is; ends = record { taken = says.taken; fits = roster_fits; ends = h }; left = o; logged = l }
     as_taken (Some (fault.Text f)) h o l = absurd h
     as_taken (Some (fault.Case f nurse)) h o l = absurd h
-    as_taken (Some (fault.Hard f names)) h o l = record { bundle = i.bundle; spelled = says.spelled; report = p; is = is; ends = record { taken = says.taken; fits = roster_fits; ends = h }; left = o; logged = l }
-    as_taken (Some (fault.Unfound f names)) h o l = record { bundle = i.bundle; spelled = says.spelled; report = p; is = is; ends = record { taken = says.taken; fits = roster_fits; ends = h }; left = o; logged = l }
-    as_taken (Some (fault.Unknown thing name)) h o l = record { bundle = i.bundle; spelled = says.spelled; report = p; is = is; ends = record { taken = says.taken; fits = roster_fits; ends = h }; left = o; logged = l }
-    as_taken (Some fault.Memory) h o l = record { bundle = i.bundle; spelled = says.spelled; report = p; is = is; ends = record { taken = says.taken; fits = roster_fits; ends = h }; left = o; logged = l }
-    as_taken (Some fault.Workspace) h o l = record { bundle = i.bundle; spelled = says.spelled; report = p; is = is; ends = record { taken = says.taken; fits = roster_fits; ends = h }; left = o; logged = l }
-    as_taken (Some fault.Output) h o l = record { bundle = i.bundle; spelled = says.spelled; report = p; is = is; ends = record { taken = says.taken; fits = roster_fits; ends = h }; left = o; logged = l }
-    as_taken (Some fault.Log) h o l = record { bundle = i.bundle; spelled = says.spelled; report = p; is = is; ends = record { taken = says.taken; fits = roster_fits; ends = h }; left = o; logged = l }
+    as_taken (Some (fault.Hard f d)) h o l = record { bundle = says.bundle; spelled = says.spelled; report = p; is = is; ends = record { taken = says.taken; fits = roster_fits; ends = h }; left = o; logged = l }
+    as_taken (Some (fault.Unfound f d)) h o l = record { bundle = says.bundle; spelled = says.spelled; report = p; is = is; ends = record { taken = says.taken; fits = roster_fits; ends = h }; left = o; logged = l }
+    as_taken (Some (fault.Unknown thing name)) h o l = record { bundle = says.bundle; spelled = says.spelled; report = p; is = is; ends = record { taken = says.taken; fits = roster_fits; ends = h }; left = o; logged = l }
+    as_taken (Some fault.Memory) h o l = record { bundle = says.bundle; spelled = says.spelled; report = p; is = is; ends = record { taken = says.taken; fits = roster_fits; ends = h }; left = o; logged = l }
+    as_taken (Some fault.Workspace) h o l = record { bundle = says.bundle; spelled = says.spelled; report = p; is = is; ends = record { taken = says.taken; fits = roster_fits; ends = h }; left = o; logged = l }
+    as_taken (Some fault.Output) h o l = record { bundle = says.bundle; spelled = says.spelled; report = p; is = is; ends = record { taken = says.taken; fits = roster_fits; ends = h }; left = o; logged = l }
+    as_taken (Some fault.Log) h o l = record { bundle = says.bundle; spelled = says.spelled; report = p; is = is; ends = record { taken = says.taken; fits = roster_fits; ends = h }; left = o; logged = l }
 
-  pub answers : (kept : Instance) → IsKeptAt i (keep_of command) kept → (outcome : CommandEnd) → Reports output log (IsReportIn command kept.case kept.roster) source kept.bundle outcome → Answers output log command source outcome
-  answers kept at outcome told =
-      let h = subst (λ b. Reports output log (IsReportIn command kept.case kept.roster) source b outcome) at.bundle told in
-      as_taken h.report (report_meant kept at h.report h.is) outcome h.ends.ends h.ends.left h.logged
+  -- a command that reports so on the instance that is kept answers so
+  module _ (kept : Instance) (at : IsKeptAt i (keep_of command) kept) where
+    case_meant : kept.case ≡ case_for command meant rows
+    case_meant = at.case ∙ (λ j. keeping (says.case j) (roster_meant j) (keep_of command))
+
+    rows_meant : kept.roster ≡ rows
+    rows_meant = at.roster ∙ roster_meant
+
+    pub answers : (outcome : CommandEnd) → Reports output log (IsReportIn command kept.case kept.roster) kept.case outcome → Answers output log command source outcome
+    answers outcome h =
+        let is = subst (λ m. IsReportIn command m rows h.report) case_meant (subst (λ r. IsReportIn command kept.case r h.report) rows_meant h.is) in
+        let ends = subst (λ m. IsOutcomeOf h.report m outcome) case_meant h.ends.ends in
+        as_taken h.report is outcome ends h.ends.left h.logged

@@ -1,14 +1,14 @@
--- How `plan` ends: whatever roster a run reached, it is one that a run reaches from the nearest that it found.
+-- How `plan` ends: whatever roster its run reached, it is one that a run reaches from the nearest roster that
+-- it found.
 use Rattle.std.proofs.Common.{◌≡◌, ◌≤◌, [], ℕ, Bool, Result, Some, true, refl}
 use Rattle.std.specs.Prelude.{IfErr, OnOk}
 use Rattle.roster_text.specs.Io.{Writes}
-use Rattle.roster_bundle.specs.declared.bundle.Bundle.{Bundle}
 use Rattle.roster_rules.specs.HardRules.{hard_faults}
 use Rattle.roster_instance.specs.Meaning.{Meaning}
 use Rattle.roster_instance.specs.Rosters.{Rows, fits_case}
 use Rattle.roster_case.specs.Shown.{weeks_text}
 use Rattle.roster_log.specs.declared.fault.LogFault.{LogFault}
-use Rattle.roster_costs.specs.Unmendable.{unmendable}
+use Rattle.roster_costs.specs.Irreparable.{irreparable}
 use Rattle.roster_costs.specs.Minimums.{missing}
 use Rattle.roster_polish.specs.Plans.{IsPlanned}
 use Rattle.roster_polish.specs.Polished.{IsPolishing, PolishLogStops, Polishes}
@@ -23,36 +23,36 @@ use Rattle.roster_answers.proofs.AnswerLemmas.{written_ends, written_log}
 use Rattle.roster_cli.proofs.AnswerLemmas.{no_plan, planned_self, unplanned}
 use Rattle.roster_cli.proofs.PolishLemmas.{more_kicks}
 
-module _ (searches from : ℕ) (alone : Bool) (c : Meaning) (r : Rows) {W L : Type 0} (output : Output W) (log : Output L) (source : Text) (b : Bundle) where
-  -- no roster is looked for
-  pub plan_refused : (f : Fault) → IsFirstBreach source b (unmendable c from r) f → Untouched output → Untouched log → Reports output log (IsPlanReport searches from alone c r) source b (Some f)
+module _ (searches from : ℕ) (alone : Bool) (c : Meaning) (r : Rows) {W L : Type 0} (output : Output W) (log : Output L) where
+  -- `plan` looks for no roster
+  pub plan_refused : (f : Fault) → IsFirstBreach c (irreparable c from r) f → Untouched output → Untouched log → Reports output log (IsPlanReport searches from alone c r) c (Some f)
   plan_refused (fault.Text f) h o l = absurd h
   plan_refused (fault.Case f nurse) h o l = absurd h
-  plan_refused (fault.Hard f names) h o l = record { report = unplanned from r c r; is = no_plan searches from alone c r r (λ e. e) (planned_self c from r); ends = record { ends = h; left = o }; logged = l }
-  plan_refused (fault.Unfound f names) h o l = absurd h
+  plan_refused (fault.Hard f d) h o l = record { report = unplanned from r c r; is = no_plan searches from alone c r r (λ e. e) (planned_self c from r); ends = record { ends = h; left = o }; logged = l }
+  plan_refused (fault.Unfound f d) h o l = absurd h
   plan_refused (fault.Unknown thing name) h o l = absurd h
   plan_refused fault.Memory h o l = absurd h
   plan_refused fault.Workspace h o l = absurd h
   plan_refused fault.Output h o l = absurd h
   plan_refused fault.Log h o l = absurd h
 
-  module _ (mendable : unmendable c from r ≡ []) where
+  module _ (repairable : irreparable c from r ≡ []) where
     -- there is no memory for the search
-    pub plan_roomless : Untouched output → Untouched log → Reports output log (IsPlanReport searches from alone c r) source b (Some fault.Workspace)
-    plan_roomless o l = record { report = unplanned from r c r; is = no_plan searches from alone c r r (λ e. e) (planned_self c from r); ends = record { ends = (mendable, refl, refl); left = o }; logged = l }
+    pub plan_roomless : Untouched output → Untouched log → Reports output log (IsPlanReport searches from alone c r) c (Some fault.Workspace)
+    plan_roomless o l = record { report = unplanned from r c r; is = no_plan searches from alone c r r (λ e. e) (planned_self c from r); ends = record { ends = (repairable, refl, refl); left = o }; logged = l }
 
     module _ (nearest : Rows) (fits : fits_case c r ≡ true → fits_case c nearest ≡ true) (planned : IsPlanned c from r nearest) where
       -- the nearest roster is not held
-      pub plan_unfound : (f : Fault) → IsUnfound source b (hard_faults c nearest) f → Untouched output → Untouched log → Reports output log (IsPlanReport searches from alone c r) source b (Some f)
+      pub plan_unfound : (f : Fault) → IsUnfound c (hard_faults c nearest) f → Untouched output → Untouched log → Reports output log (IsPlanReport searches from alone c r) c (Some f)
       plan_unfound (fault.Text f) h o l = absurd h
       plan_unfound (fault.Case f nurse) h o l = absurd h
-      plan_unfound (fault.Hard f names) h o l = absurd h
-      plan_unfound (fault.Unfound f names) h o l = record { report = unplanned from nearest c r; is = no_plan searches from alone c r nearest fits planned; ends = record { ends = (mendable, h); left = o }; logged = l }
+      plan_unfound (fault.Hard f d) h o l = absurd h
+      plan_unfound (fault.Unfound f d) h o l = record { report = unplanned from nearest c r; is = no_plan searches from alone c r nearest fits planned; ends = record { ends = (repairable, h); left = o }; logged = l }
       plan_unfound (fault.Unknown thing name) h o l = absurd h
       plan_unfound fault.Memory h o l = record {
         report = unplanned from nearest c r;
         is = no_plan searches from alone c r nearest fits planned;
-        ends = record { ends = (record { kept = mendable; found = h; known = refl }, refl); left = o };
+        ends = record { ends = (record { kept = repairable; found = h; known = refl }, refl); left = o };
         logged = l;
       }
       plan_unfound fault.Workspace h o l = absurd h
@@ -60,29 +60,29 @@ module _ (searches from : ℕ) (alone : Bool) (c : Meaning) (r : Rows) {W L : Ty
       plan_unfound fault.Log h o l = absurd h
 
       module _ (kept : hard_faults c nearest ≡ []) (few : ℕ) (fewer : few ≤ searches) where
-        of_run : (settled : Bool) (last : Rows) (told : Text) → IsPolishing c from nearest (missing c r) few alone settled last told → IsPlanReport searches from alone c r (plan_report from nearest last told c r)
-        of_run settled last told run = record { nearest = nearest; fits = fits; planned = planned; settled = settled; last = last; told = told; run = λ accepted. more_kicks fewer run; is = refl }
+        of_run : (settled : Bool) (last : Rows) (log_text : Text) → IsPolishing c from nearest (missing c r) few alone settled last log_text → IsPlanReport searches from alone c r (plan_report from nearest last log_text c r)
+        of_run settled last log_text run = record { nearest = nearest; fits = fits; planned = planned; settled = settled; last = last; log_text = log_text; run = λ accepted. more_kicks fewer run; is = refl }
 
         -- the log failed inside the run
         pub plan_stops : (after : Rows) (f : LogFault) → PolishLogStops log.contents c from nearest (missing c r) few alone after log.before log.after f → Untouched output
-            → Reports output log (IsPlanReport searches from alone c r) source b (Some fault.Log)
+            → Reports output log (IsPlanReport searches from alone c r) c (Some fault.Log)
         plan_stops after f h o = record {
           report = plan_report from nearest h.last h.text c r;
           is = of_run h.settled h.last h.text h.run;
-          ends = record { ends = (record { kept = mendable; found = kept; known = refl }, refl); left = o };
+          ends = record { ends = (record { kept = repairable; found = kept; known = refl }, refl); left = o };
           logged = record { sent = h.sent; stops = h.stops };
         }
 
-        -- the run was made, and its roster written or not
-        pub plan_ends : {X : Type 0} (last : Rows) (told : Polished) (result : Result X Fault) → Polishes log.contents c from nearest (missing c r) few alone last log.before log.after told
+        -- the run was made; its roster was written, or the output failed
+        pub plan_ends : {X : Type 0} (last : Rows) (polished : Polished) (result : Result X Fault) → Polishes log.contents c from nearest (missing c r) few alone last log.before log.after polished
             → OnOk result (Writes output.contents output.before output.after (weeks_text c last))
             → IfErr result (StopsOutput output.contents output.before output.after (weeks_text c last))
-            → Reports output log (IsPlanReport searches from alone c r) source b (outcome_of result)
-        plan_ends last told result h ok err =
+            → Reports output log (IsPlanReport searches from alone c r) c (outcome_of result)
+        plan_ends last polished result h ok err =
             let report = plan_report from nearest last h.text c r in
             record {
               report = report;
-              is = of_run told.settled last h.text h.run;
-              ends = written_ends output report source b result (record { kept = mendable; found = kept; known = refl }) ok err;
+              is = of_run polished.settled last h.text h.run;
+              ends = written_ends output report c result (record { kept = repairable; found = kept; known = refl }) ok err;
               logged = written_log output log (Some h.text) (weeks_text c last) result h.writes err;
             }

@@ -1,4 +1,4 @@
--- What a run says of its devices: which of them has failed, and what was told of it.
+-- What a run says of its devices: which of them has failed, and what was reported of it.
 use Rattle.std.proofs.Common.{◌≡◌, ◌≢◌, ◌⊎◌, ◌∙◌, ℕ, None, Option, Some, ap, codes, inl, inr, refl, subst, sym}
 use Rattle.std.proofs.lemmas.Bool.{cases_eq}
 use Rattle.roster_text.specs.Io.{Watched, one_more}
@@ -6,8 +6,8 @@ use Rattle.roster_text.specs.declared.fault.TextFault.TheVariants as text
 use Rattle.roster_instance.specs.Bundles.{meaning_of}
 use Rattle.roster_instance.specs.declared.fault.CaseFault.{CaseFault}
 use Rattle.roster_instance.specs.declared.fault.CaseFault.TheVariants as case
-use Rattle.roster_answers.specs.Answer.{Input, Logged, Logs, Output, StopsLog, Tells, Untouched, roster_of}
-use Rattle.roster_cli.specs.Answer.{IsLogFailed, IsSilent, ReadsAndAnswers, StopsCommand, StopsRun, TellsOutput}
+use Rattle.roster_answers.specs.Answer.{Input, Logged, Logs, Output, StopsLog, ReportsFault, Untouched, roster_of}
+use Rattle.roster_cli.specs.Answer.{IsLogFailed, IsSilent, ReadsAndAnswers, StopsCommand, StopsRun, PrintsOutput}
 use Rattle.roster_reports.specs.Lines.{Text}
 use Rattle.roster_answers.specs.Lines.{case_status, status_of}
 use Rattle.roster_answers.specs.declared.fault.Fault.{Fault}
@@ -28,16 +28,16 @@ no_device (case.TooManyStates number name) h = cc
 no_device (case.H1 number day) h = cc
 
 module _ {R W L : Type 0} (input : Input R) (output : Output W) (log : Output L) (command : Command) where
-  -- the input has not failed, and so on
+  -- the input has not failed, and likewise the others
   abbrev ReadOn : Type 0
   ReadOn = input.after.failures ≡ input.before.failures
 
   -- the log was stopped, so the command has one
-  log_failed : (told : Option Text) → StopsLog log told → log.after.failures ≡ one_more log.before.failures
+  log_failed : (log_text : Option Text) → StopsLog log log_text → log.after.failures ≡ one_more log.before.failures
   log_failed None h = absurd h
   log_failed (Some t) h = h.stops.failures
 
-  -- which device a fault is of
+  -- the device that a fault is about
   pub data Cause (f : Fault) : Type 0 where
     of_input : f ≡ fault.Text text.ReadFailed → Untouched output → Untouched log → input.after.failures ≡ one_more input.before.failures → Cause f
     of_output : f ≡ fault.Output → ReadOn → output.after.failures ≡ one_more output.before.failures → (IsSilent command → Untouched log) → Cause f
@@ -59,10 +59,10 @@ module _ {R W L : Type 0} (input : Input R) (output : Output W) (log : Output L)
   cause (fault.Text (text.AfterEnd line)) (inr h) = of_none (λ e. cc) h.read.failures h.answers.1
   cause (fault.Case f nurse) (inl h) = absurd h.0
   cause (fault.Case f nurse) (inr h) = of_none (no_device f) h.read.failures h.answers.left
-  cause (fault.Hard f names) (inl h) = absurd h.0
-  cause (fault.Unfound f names) (inl h) = absurd h.0
-  cause (fault.Hard f names) (inr h) = of_none (λ e. cc) h.read.failures h.answers.left
-  cause (fault.Unfound f names) (inr h) = of_none (λ e. cc) h.read.failures h.answers.left
+  cause (fault.Hard f d) (inl h) = absurd h.0
+  cause (fault.Unfound f d) (inl h) = absurd h.0
+  cause (fault.Hard f d) (inr h) = of_none (λ e. cc) h.read.failures h.answers.left
+  cause (fault.Unfound f d) (inr h) = of_none (λ e. cc) h.read.failures h.answers.left
   cause (fault.Unknown thing name) (inl h) = absurd h.0
   cause (fault.Unknown thing name) (inr h) = of_none (λ e. cc) h.read.failures h.answers.left
   cause fault.Memory (inl h) = absurd h.0
@@ -90,26 +90,26 @@ module _ {R W L : Type 0} (input : Input R) (output : Output W) (log : Output L)
       of s (of_input is o l more) = (
         s.status_is ∙ ap status_of is,
         o,
-        subst (λ m. Logs log.contents m log.after (codes "read failed\n")) l (subst (Tells log.contents s.met log.after) is s.told),
+        subst (λ m. Logs log.contents m log.after (codes "read failed\n")) l (subst (ReportsFault log.contents s.met log.after) is s.reported),
       )
       of s (of_output is on more l) = absurd (failed on)
-      of s (of_log is on o tells more) = absurd (failed on)
+      of s (of_log is on o not_silent more) = absurd (failed on)
       of s (of_none other on o) = absurd (failed on)
 
       go : (status ≡ 0) ⊎ (status ≡ 0 → ⊥) → (status ≡ 3) × Untouched output × Logs log.contents log.before log.after (codes "read failed\n")
       go (inl zero) = absurd (failed (done zero).read.failures)
       go (inr other) = of (stops other) (cause input output (met_log (stops other).met) command (stops other).fault (stops other).refused)
 
-  pub write_failed : output.after.failures ≢ output.before.failures → (status ≡ 3) × TellsOutput log command
+  pub write_failed : output.after.failures ≢ output.before.failures → (status ≡ 3) × PrintsOutput log command
   write_failed failed = go (cases_eq status 0)
     where
-      of : (s : StopsRun input output log command status) → Cause input output (met_log s.met) command s.fault → (status ≡ 3) × TellsOutput log command
+      of : (s : StopsRun input output log command status) → Cause input output (met_log s.met) command s.fault → (status ≡ 3) × PrintsOutput log command
       of s (of_input is o l more) = absurd (failed (ap (λ w. w.failures) o))
-      of s (of_output is on more l) = (s.status_is ∙ ap status_of is, record { met = s.met; silent = l; line = subst (Tells log.contents s.met log.after) is s.told })
-      of s (of_log is on o tells more) = absurd (failed (ap (λ w. w.failures) o))
+      of s (of_output is on more l) = (s.status_is ∙ ap status_of is, record { met = s.met; silent = l; line = subst (ReportsFault log.contents s.met log.after) is s.reported })
+      of s (of_log is on o not_silent more) = absurd (failed (ap (λ w. w.failures) o))
       of s (of_none other on o) = absurd (failed (ap (λ w. w.failures) o))
 
-      go : (status ≡ 0) ⊎ (status ≡ 0 → ⊥) → (status ≡ 3) × TellsOutput log command
+      go : (status ≡ 0) ⊎ (status ≡ 0 → ⊥) → (status ≡ 3) × PrintsOutput log command
       go (inl zero) = absurd (failed (done zero).answers.left.failures)
       go (inr other) = of (stops other) (cause input output (met_log (stops other).met) command (stops other).fault (stops other).refused)
 
@@ -122,7 +122,7 @@ module _ {R W L : Type 0} (input : Input R) (output : Output W) (log : Output L)
       of : (s : StopsRun input output log command status) → Cause input output (met_log s.met) command s.fault → Device
       of s (of_input is o l more) = inl more
       of s (of_output is on more l) = inr (inl more)
-      of s (of_log is on o tells more) = inr (inr (record { tells = tells; failures = ap (λ w. w.failures) (subst (Tells log.contents s.met log.after) is s.told) ∙ more }))
+      of s (of_log is on o not_silent more) = inr (inr (record { not_silent = not_silent; failures = ap (λ w. w.failures) (subst (ReportsFault log.contents s.met log.after) is s.reported) ∙ more }))
       of s (of_none other on o) = absurd (other (sym s.status_is ∙ three))
 
       go : (status ≡ 0) ⊎ (status ≡ 0 → ⊥) → Device

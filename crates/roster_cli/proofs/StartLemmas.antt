@@ -22,7 +22,7 @@ no_text_fault_is_done (text.NumberRange line) h = cc
 no_text_fault_is_done (text.AfterEnd line) h = cc
 
 module _ {Out Log : Type 0} (contents : Out → Option Text) (held : Out → Text) (logged : Log → Option Text) (command : Command) where
-  -- what a run did is done, once the output is flushed
+  -- a run is done once its output is flushed
   pub done_once_flushed : {In : Type 0} (remaining : In → Option Text) (read read_after : Watched In) (taken taken_after : Watched Out) (log log_after : Watched Log)
       → (input : In) (output met flushed : Out) (log_flushed : Watched Log)
       → ReadsAndAnswers (record { remaining = remaining; before = read; after = read_after }) (record { contents = contents; before = taken; after = taken_after })
@@ -45,7 +45,7 @@ module _ {Out Log : Type 0} (contents : Out → Option Text) (held : Out → Tex
           is = answers.is;
           taken = answers.ends;
           written = Appends-kept _ _ _ _ grown stays;
-          told = subst (λ l. Logged (record { contents = logged; before = log; after = l }) answers.report.log) (sym same) answers.logged;
+          in_log = subst (λ l. Logged (record { contents = logged; before = log; after = l }) answers.report.log) (sym same) answers.logged;
         };
         sent_on = sent;
         silent = λ quiet. same ∙ silent quiet;
@@ -58,7 +58,7 @@ module _ {Out Log : Type 0} (contents : Out → Option Text) (held : Out → Tex
   of_input files input output output_after log log_after none done =
       subst (λ n. ReadsAndSends contents held logged command (given_for n input) output output_after log log_after) (sym none) done
 
-  -- files are named, and what they give isn't known
+  -- files are named, and what they contain isn't known
   pub of_files : (files : ℕ) (input joined : Option Text) (output output_after : Out) (log log_after : Watched Log) → (files ≡ 0 → ⊥)
       → ReadsAndSends contents held logged command joined output output_after log log_after
       → ReadsAndSends contents held logged command (given_for files input) output output_after log log_after

@@ -13,7 +13,7 @@ use Rattle.roster_instance.specs.Rosters.{Rows, fits_case}
 use Rattle.roster_case.specs.Shown.{weeks_text}
 use Rattle.roster_rules.specs.declared.fault.HardFault.{HardFault}
 use Rattle.roster_rounds.specs.PutIn.{IsAccepted}
-use Rattle.roster_costs.specs.Unmendable.{unmendable}
+use Rattle.roster_costs.specs.Irreparable.{irreparable}
 use Rattle.roster_costs.specs.Minimums.{missing}
 use Rattle.roster_polish.specs.Plans.{IsPlanned}
 use Rattle.roster_polish.specs.Polished.{IsPolishing}
@@ -25,45 +25,57 @@ use Rattle.roster_answers.specs.declared.fault.Fault.TheVariants as fault
 use Rattle.roster_answers.specs.declared.instance.Instance.{Instance}
 use Rattle.roster_request.specs.declared.request.Command.{Command}
 use Rattle.roster_request.specs.declared.request.Command.TheVariants as command
-use Rattle.roster_answers.specs.Answer.{CommandEnd, HasFault, Input, IsBoundReport, IsRefusedFor, IsTaken, IsWhoReport, Leaves, LeavesLog, Logs, Output, ReadsAll, Report, SpellsBundle, Tells, Untouched, best_report, cost_report, improve_report, plain, roster_of}
+use Rattle.roster_answers.specs.Answer.{CommandEnd, HasFault, Input, IsBoundReport, IsRefusedFor, IsTaken, IsWhoReport, Leaves, LeavesLog, Logs, Output, ReadsAll, Report, SpellsBundle, ReportsFault, Untouched, best_report, cost_report, improve_report, plain, roster_of}
 
 -- ---- a case and its roster: what a command answers for them
 
 -- the roster that a run of kicks reached, and its log
 abbrev pub polish_report : Rows → Text → Meaning → Rows → Report
-polish_report last told c r = record (plain (weeks_text c last)) { is_held = true; broken = hard_faults c r; log = Some told }
+polish_report last log_text c r =
+    record (plain (weeks_text c last)) { is_held = true; broken = hard_faults c r; log = Some log_text }
 
--- it is of such a run from a roster that is accepted, with kicks alone or with a fade before them; how cheap the roster gets isn't said
-pub record IsPolishReport (searches from : ℕ) (alone : Bool) (c : Meaning) (r : Rows) (p : Report) : Type 0 where
+-- The report is of such a run from a roster that is accepted, with kicks alone or with a fade before them.
+-- How cheap the roster gets isn't stated.
+pub record IsPolishReport (searches from : ℕ) (alone : Bool) (c : Meaning) (r : Rows)
+    (p : Report) : Type 0 where
   pub settled : Bool
   pub last : Rows
-  pub told : Text
-  pub run : IsAccepted c r → IsPolishing c from r (penalty c r) searches alone settled last told
-  pub is : p ≡ polish_report last told c r
+  pub log_text : Text
+  pub run : IsAccepted c r → IsPolishing c from r (penalty c r) searches alone settled last log_text
+  pub is : p ≡ polish_report last log_text c r
 
--- the roster that a run of kicks reached from the nearest one that a plan found, and its log
+-- the roster that a run of kicks reached from the nearest roster that a plan found, and its log
 abbrev pub plan_report : ℕ → Rows → Rows → Text → Meaning → Rows → Report
-plan_report from nearest last told c r =
-    record (plain (weeks_text c last)) { is_held = true; broken = unmendable c from r; unfound = hard_faults c nearest; log = Some told }
+plan_report from nearest last log_text c r =
+    record (plain (weeks_text c last)) {
+      is_held = true;
+      broken = irreparable c from r;
+      unfound = hard_faults c nearest;
+      log = Some log_text;
+    }
 
--- it is of such a run, whose log begins with how many nurses the minimums miss in the given roster: that one stays where it keeps the
--- hard rules, and else the nearest is one that a plan made of it; that no other is nearer isn't said
-pub record IsPlanReport (searches from : ℕ) (alone : Bool) (c : Meaning) (r : Rows) (p : Report) : Type 0 where
+-- The report is of such a run. Its log begins with how many nurses the given roster lacks to the minimums. If
+-- the given roster keeps the hard rules, the run begins with it; else it begins with the nearest, one that a
+-- plan made of it. That no other is nearer isn't stated.
+pub record IsPlanReport (searches from : ℕ) (alone : Bool) (c : Meaning) (r : Rows)
+    (p : Report) : Type 0 where
   pub nearest : Rows
   pub fits : fits_case c r ≡ true → fits_case c nearest ≡ true
   pub planned : IsPlanned c from r nearest
   pub settled : Bool
   pub last : Rows
-  pub told : Text
-  pub run : IsAccepted c nearest → IsPolishing c from nearest (missing c r) searches alone settled last told
-  pub is : p ≡ plan_report from nearest last told c r
+  pub log_text : Text
+  pub run : IsAccepted c nearest
+      → IsPolishing c from nearest (missing c r) searches alone settled last log_text
+  pub is : p ≡ plan_report from nearest last log_text c r
 
--- how many searches a run may make: as many as are asked for, or else 400 for each nurse, and 20,000 at least
+-- how many searches a run may make: the number asked for, or else 400 for each nurse, and at least 20,000
 abbrev pub searches_for : Meaning → Option ℕ → ℕ
 searches_for c None = max (400 * nurse_count c) 20000
 searches_for c (Some searches) = searches
 
--- how many points each day costs, by a command, that becomes another than in the given roster: as many as are asked for, at most the most
+-- how many points a command charges for each day that changes from the given roster: the number asked for, up
+-- to the greatest
 abbrev pub keep_of : Command → ℕ
 keep_of (command.Best nurse from keep) = min keep most_keep
 keep_of (command.Improve rounds from keep) = min keep most_keep
@@ -72,69 +84,77 @@ keep_of (command.Polish searches seed from alone keep) = min keep most_keep
 keep_of (command.Plan searches seed from keep) = min keep most_keep
 keep_of _ = 0
 
--- the case for which it works: the given roster is kept at these points
+-- the case for which it works, which charges these points for days that change from the given roster
 abbrev pub case_for : Command → Meaning → Rows → Meaning
 case_for command c r = keeping c r (keep_of command)
 
--- it is what a command writes for a case, whatever roster that keeps
+-- this is what a command writes for a case, whatever roster the case keeps
 abbrev pub IsReportIn : Command → Meaning → Rows → Report → Type 0
 IsReportIn command.Show c r p = p ≡ plain (weeks_text c r)
 IsReportIn command.Cost c r p = p ≡ cost_report c r
 IsReportIn command.Sizes c r p = p ≡ plain (sizes_text c)
 IsReportIn (command.Best nurse from keep) c r p = p ≡ best_report (string_bytes nurse) from c r
 IsReportIn (command.Improve rounds from keep) c r p = p ≡ improve_report rounds from c r
-IsReportIn (command.Bound rounds nodes from keep) c r p = IsBoundReport (record { rounds = rounds; nodes = nodes }) from c r p
-IsReportIn (command.Polish searches seed from alone keep) c r p = IsPolishReport (searches_for c searches) from alone c r p
-IsReportIn (command.Plan searches seed from keep) c r p = IsPlanReport (searches_for c searches) from false c r p
-IsReportIn (command.Who day shift skill from) c r p = IsWhoReport (record { day = string_bytes day; shift = string_bytes shift; skill = option_map string_bytes skill }) from c r p
+IsReportIn (command.Bound rounds nodes from keep) c r p =
+    IsBoundReport (record { rounds = rounds; nodes = nodes }) from c r p
+IsReportIn (command.Polish searches seed from alone keep) c r p =
+    IsPolishReport (searches_for c searches) from alone c r p
+IsReportIn (command.Plan searches seed from keep) c r p =
+    IsPlanReport (searches_for c searches) from false c r p
+IsReportIn (command.Who day shift skill from) c r p =
+    IsWhoReport (record
+    { day = string_bytes day; shift = string_bytes shift; skill = option_map string_bytes skill }) from c r p
 
--- it is what a command asks of a case and its roster, and writes for them
+-- this is what a command requires of a case and its roster, and writes for them
 abbrev pub IsReportOf : Command → Meaning → Rows → Report → Type 0
 IsReportOf command c r p = IsReportIn command (case_for command c r) r p
 
--- ---- the same of an instance that was read
+-- ---- the same for an instance that was read
 
 abbrev pub IsReportFor : Command → Instance → Report → Type 0
 IsReportFor command instance p = IsReportIn command instance.case instance.roster p
 
 abbrev pub IsPolishFor : Course → Instance → Report → Type 0
-IsPolishFor course instance p = IsPolishReport course.searches course.from course.kicks_alone instance.case instance.roster p
+IsPolishFor course instance p =
+    IsPolishReport course.searches course.from course.kicks_alone instance.case instance.roster p
 
 abbrev pub IsPlanFor : Course → Instance → Report → Type 0
-IsPlanFor course instance p = IsPlanReport course.searches course.from course.kicks_alone instance.case instance.roster p
+IsPlanFor course instance p =
+    IsPlanReport course.searches course.from course.kicks_alone instance.case instance.roster p
 
 -- ---- what is refused
 
--- a command that tells nothing of its work
+-- a command without a log
 abbrev pub IsSilent : Command → Type 0
 IsSilent command = (c : Meaning) (r : Rows) (p : Report) → IsReportOf command c r p → p.log ≡ None
 
--- why the roster that was found is not held: for the first of these breaches, or for want of memory where there is none
-abbrev pub IsUnfound : Text → Bundle → List HardFault → Fault → Type 0
-IsUnfound bytes b broken fault.Memory = broken ≡ []
-IsUnfound bytes b broken (fault.Unfound f names) = IsFirstBreach bytes b broken (fault.Hard f names)
-IsUnfound bytes b broken _ = ⊥
+-- why the roster that was found is not held: the first of these breaches, or want of memory if there is none
+abbrev pub IsUnfound : Meaning → List HardFault → Fault → Type 0
+IsUnfound c broken fault.Memory = broken ≡ []
+IsUnfound c broken (fault.Unfound f d) = IsFirstBreach c broken (fault.Hard f d)
+IsUnfound c broken _ = ⊥
 
 -- ---- a bundle: the same, and why it is refused
 
--- it is what a command asks of it and writes for it
+-- this is what a command requires of the bundle and writes for it
 abbrev pub IsAnswer : Command → Text → Bundle → Report → Type 0
 IsAnswer command bytes b p = IsReportOf command (meaning_of bytes b) (roster_of bytes b) p
 
--- how such a command ends for it
-abbrev pub IsOutcomeFor : Report → Text → Bundle → CommandEnd → Type 0
-IsOutcomeFor p bytes b (Some (fault.Case f nurse)) = IsRefusedFor bytes b f nurse.now
-IsOutcomeFor p bytes b outcome = IsTaken p bytes b outcome
+-- how a command with this report ends for it
+abbrev pub IsOutcomeFor : Command → Report → Text → Bundle → CommandEnd → Type 0
+IsOutcomeFor command p bytes b (Some (fault.Case f nurse)) = IsRefusedFor bytes b f nurse.now
+IsOutcomeFor command p bytes b outcome = IsTaken p (keep_of command) bytes b outcome
 
 -- ---- a command, from the bytes
 
--- the bytes spell a bundle, for which the command ends so, with what it leaves of its text and of its log
-pub record AnswersBundle {W L : Type 0} (output : Output W) (log : Output L) (command : Command) (bytes : Text) (outcome : CommandEnd) : Type 0 where
+-- the bytes spell a bundle for which the command ends so, with what it leaves of its text and of its log
+pub record AnswersBundle {W L : Type 0} (output : Output W) (log : Output L) (command : Command)
+    (bytes : Text) (outcome : CommandEnd) : Type 0 where
   pub bundle : Bundle
   pub spelled : SpellsBundle bytes bundle
   pub report : Report
   pub is : IsAnswer command bytes bundle report
-  pub ends : IsOutcomeFor report bytes bundle outcome
+  pub ends : IsOutcomeFor command report bytes bundle outcome
   pub left : Leaves output report.output outcome
   pub logged : LeavesLog log report.log outcome
 
@@ -146,12 +166,13 @@ Answers output log command bytes outcome = AnswersBundle output log command byte
 -- ---- from the reader
 
 -- the input was read, and the command ends so for its bytes
-pub record ReadsAndAnswers {R W L : Type 0} (input : Input R) (output : Output W) (log : Output L) (command : Command) (outcome : CommandEnd) : Type 0 where
+pub record ReadsAndAnswers {R W L : Type 0} (input : Input R) (output : Output W) (log : Output L)
+    (command : Command) (outcome : CommandEnd) : Type 0 where
   pub bytes : Text
   pub read : ReadsAll input bytes
   pub answers : Answers output log command bytes outcome
 
--- that is so, and no fault stops it
+-- the same, and no fault stops the command
 abbrev pub IsAnswered : {R W L : Type 0} → Input R → Output W → Output L → Command → Type 0
 IsAnswered input output log command = ReadsAndAnswers input output log command None
 
@@ -159,7 +180,9 @@ IsAnswered input output log command = ReadsAndAnswers input output log command N
 abbrev pub IsUnread : {R : Type 0} → Input R → Fault → Type 0
 IsUnread input (fault.Text text.Memory) = input.after.failures ≡ input.before.failures
 IsUnread input (fault.Text text.ReadFailed) = input.after.failures ≡ one_more input.before.failures
-IsUnread input (fault.Text text.TooLong) = (input.after.failures ≡ input.before.failures) × IfSome (input.remaining input.before.inner) (λ given. most_bytes < length given)
+IsUnread input (fault.Text text.TooLong) =
+    (input.after.failures ≡ input.before.failures)
+    × IfSome (input.remaining input.before.inner) (λ given. most_bytes < length given)
 IsUnread input _ = ⊥
 
 -- why the command stopped, and what it left on the output and on the log
@@ -167,21 +190,23 @@ abbrev pub StopsCommand : {R W L : Type 0} → Input R → Output W → Output L
 StopsCommand input output log command f =
     (IsUnread input f × Untouched output × Untouched log) ⊎ ReadsAndAnswers input output log command (Some f)
 
--- The run stopped for a fault, with its status. `met` is the log when the fault came, and after that the fault is told.
-pub record StopsRun {R W L : Type 0} (input : Input R) (output : Output W) (log : Output L) (command : Command) (status : ℕ) : Type 0 where
+-- The run stopped at a fault, with its status. `met` is the log when the fault came; after that the fault is
+-- reported.
+pub record StopsRun {R W L : Type 0} (input : Input R) (output : Output W) (log : Output L)
+    (command : Command) (status : ℕ) : Type 0 where
   pub fault : Fault
   pub status_is : status ≡ status_of fault
   pub met : Watched L
   pub refused : StopsCommand input output (record log { after = met }) command fault
-  pub told : Tells log.contents met log.after fault
+  pub reported : ReportsFault log.contents met log.after fault
 
--- an output that failed was told after the command's log
-pub record TellsOutput {L : Type 0} (log : Output L) (command : Command) : Type 0 where
+-- an output that failed was reported after the command's log
+pub record PrintsOutput {L : Type 0} (log : Output L) (command : Command) : Type 0 where
   pub met : Watched L
   pub silent : IsSilent command → met ≡ log.before
   pub line : Logs log.contents met log.after output_line
 
--- the log has failed, of a command that has one
+-- the log of a command that has one failed
 pub record IsLogFailed {L : Type 0} (log : Output L) (command : Command) : Type 0 where
-  pub tells : IsSilent command → ⊥
+  pub not_silent : IsSilent command → ⊥
   pub failures : log.after.failures ≡ one_more log.before.failures

@@ -2,17 +2,18 @@
 
 ghost use Rattle.std.specs.Prelude.{◌≡◌, ◌≢◌, ◌⊎◌, Contains, [], ◌∷◌, codes};
 ghost use Rattle.roster_answers.specs.Answer.{FailsOnce, Logs, input_of, outcome_of, output_of};
-ghost use Rattle.roster_cli.specs.Answer.{Answers, IsAnswered, IsLogFailed, IsSilent, StopsRun, TellsOutput};
+ghost use Rattle.roster_cli.specs.Answer.{Answers, IsAnswered, IsLogFailed, IsSilent, StopsRun, PrintsOutput};
 
 use crate::commands::{keep_of, report};
-use roster_answers::{Fault, keep_roster, read_instance, tell};
+use roster_answers::{Fault, keep_roster, read_instance, report_fault};
+use roster_instance::CaseFault;
 use roster_request::{Command, Request};
 use roster_text::{Watch, read_all};
 use std::alloc::Global;
 use std::io::{Read, Write};
 
-/// Answers a request: reads the input to its end, writes the output, and answers the status. What the command tells of its work
-/// goes to the log, all of it before the output begins, and after that the line of a fault.
+/// Answers a request: reads the input to its end, writes the output, and answers the status. The command's
+/// log goes to `log`, all of it before the output begins, and after that the line of a fault.
 pub fn run<R: Read, Out: Write, Log: Write>(
     alloc: Global,
     request: &Request,
@@ -22,22 +23,23 @@ pub fn run<R: Read, Out: Write, Log: Write>(
 ) -> u8
     ensures status { Contains (0 ∷ 1 ∷ 3 ∷ 4 ∷ []) result }
 
-    // What is answered, where nothing is refused.
+    // What is answered, if nothing is refused.
     ensures done { result ≡ 0 → IsAnswered (input_of R.remaining input.old input.new)
         (output_of Out.contents output.old output.new)
         (output_of Log.contents log.old log.new) request.now.command }
     ensures silent { result ≡ 0 → IsSilent request.now.command → log.new ≡ log.old }
 
-    // Else there is a fault, with its status and its line.
+    // Otherwise there is a fault, with its status and its line.
     ensures refused { result ≢ 0 → StopsRun (input_of R.remaining input.old input.new)
         (output_of Out.contents output.old output.new)
         (output_of Log.contents log.old log.new) request.now.command result }
 
-    // A read or an output write that fails is told so, and status 3 comes from nothing else but a log that fails.
+    // A read or an output write that fails is reported as such. The only other cause of status 3 is a log
+    // that fails.
     ensures read_failed { input.new.failures ≢ input.old.failures → (result ≡ 3)
         × (output.new ≡ output.old) × Logs Log.contents log.old log.new (codes "read failed\n") }
     ensures write_failed { output.new.failures ≢ output.old.failures → (result ≡ 3)
-        × TellsOutput (output_of Log.contents log.old log.new) request.now.command }
+        × PrintsOutput (output_of Log.contents log.old log.new) request.now.command }
     ensures device { result ≡ 3 → FailsOnce input.old input.new ⊎ FailsOnce output.old output.new
         ⊎ IsLogFailed (output_of Log.contents log.old log.new) request.now.command }
 {
@@ -60,11 +62,11 @@ fn run_command<R: Read, Out: Write, Log: Write>(
 {
     let source = match read_all(alloc, input) {
         Ok(source) => source,
-        Err(fault) => return tell(Fault::Text(fault), log),
+        Err(fault) => return report_fault(Fault::Text(fault), log),
     };
     match report_bytes(alloc, command, &source, output, log) {
         Ok(()) => 0,
-        Err(fault) => tell(fault, log),
+        Err(fault) => report_fault(fault, log),
     }
 }
 
@@ -80,6 +82,8 @@ fn report_bytes<'a, Out: Write, Log: Write>(
         (output_of Log.contents log.old log.new) command.now source.now (outcome_of result) }
 {
     let given = read_instance(alloc, source)?;
-    let instance = keep_roster(alloc, source, given, keep_of(command))?;
-    report(alloc, command, source, instance, output, log)
+    let Ok(instance) = keep_roster(alloc, given, keep_of(command)) else {
+        return Err(Fault::Case(CaseFault::Memory, &[]));
+    };
+    report(alloc, command, instance, output, log)
 }

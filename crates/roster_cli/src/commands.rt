@@ -13,46 +13,42 @@ use roster_answers::{
 };
 use roster_bound::Effort;
 use roster_instance::Case;
-use roster_partial::PartialTables;
+use roster_partial::RowSearcher;
 use roster_polish::Course;
 use roster_request::Command;
 use roster_text::Watch;
 use std::alloc::Global;
 use std::io::Write;
 
-/// Writes what a command reports of an instance, or says why it is refused, with the names that the source has. What the
-/// command tells of its work goes to the log.
+/// Writes what a command reports of an instance, or answers why it is refused. The command's log goes to
+/// `log`.
 pub(crate) fn report<'a, Out: Write, Log: Write>(
     alloc: Global,
     command: &'a Command,
-    source: &'a [u8],
     instance: Instance,
     output: &mut Watch<Out>,
     log: &mut Watch<Log>,
 ) -> Result<(), Fault<'a>>
     ensures { Reports (output_of Out.contents output.old output.new)
         (output_of Log.contents log.old log.new)
-        (IsReportFor command.now instance) source.now instance.bundle (outcome_of result) }
+        (IsReportFor command.now instance) instance.case (outcome_of result) }
 {
     match command {
         Command::Show => show_weeks(&instance.case, &instance.roster, output),
-        Command::Cost => report_cost(alloc, source, instance, output),
+        Command::Cost => report_cost(alloc, instance, output),
         Command::Sizes => report_sizes(&instance.case, output),
         Command::Best { nurse, from, .. } => {
-            report_best::<PartialTables, Out, Log>(
+            report_best::<RowSearcher, Out, Log>(
                 alloc,
                 nurse.as_bytes(),
                 *from,
-                source,
                 instance,
                 output,
                 log,
             )
         }
         Command::Improve { rounds, from, .. } => {
-            report_improve::<PartialTables, Out, Log>(
-                alloc, *rounds, *from, source, instance, output, log,
-            )
+            report_improve::<RowSearcher, Out, Log>(alloc, *rounds, *from, instance, output, log)
         }
         Command::Bound {
             rounds,
@@ -64,9 +60,7 @@ pub(crate) fn report<'a, Out: Write, Log: Write>(
                 rounds: *rounds,
                 nodes: *nodes,
             };
-            report_bound::<PartialTables, Out, Log>(
-                alloc, effort, *from, source, instance, output, log,
-            )
+            report_bound::<RowSearcher, Out, Log>(alloc, effort, *from, instance, output, log)
         }
         Command::Polish {
             searches,
@@ -81,7 +75,7 @@ pub(crate) fn report<'a, Out: Write, Log: Write>(
                 from: *from,
                 kicks_alone: *kicks_alone,
             };
-            report_polish(alloc, &course, source, instance, output, log)
+            report_polish(alloc, &course, instance, output, log)
         }
         Command::Plan {
             searches,
@@ -95,7 +89,7 @@ pub(crate) fn report<'a, Out: Write, Log: Write>(
                 from: *from,
                 kicks_alone: false,
             };
-            report_plan(alloc, &course, source, instance, output, log)
+            report_plan(alloc, &course, instance, output, log)
         }
         Command::Who {
             day,
@@ -104,7 +98,7 @@ pub(crate) fn report<'a, Out: Write, Log: Write>(
             from,
         } => {
             let asking = asking_of(day, shift, skill, *from);
-            report_who::<PartialTables, Out>(alloc, asking, source, instance, output)
+            report_who::<RowSearcher, Out>(alloc, asking, instance, output)
         }
     }
 }
@@ -131,7 +125,7 @@ fn asking_of<'a>(
     }
 }
 
-/// The bytes of a text, where one is given.
+/// The bytes of a text, if one is given.
 fn bytes_if_given(text: &Option<String>) -> Option<&[u8]>
     ensures { option_map (λ bytes. bytes.now) result ≡ option_map string_bytes text.now }
 {
@@ -141,7 +135,7 @@ fn bytes_if_given(text: &Option<String>) -> Option<&[u8]>
     }
 }
 
-/// At how many points a command keeps the given roster.
+/// How many points a command charges for each day that changes from the given roster.
 pub(crate) fn keep_of(command: &Command) -> u16
     ensures keep { result ≡ keep_of command.now }
     ensures within { result ≤ most_keep }
@@ -157,10 +151,11 @@ pub(crate) fn keep_of(command: &Command) -> u16
     }
 }
 
-/// The most points.
+/// The most points for such a day.
 const MOST_KEEP: u16 = 100;
 
-/// How many searches a run may make: as many as are asked for, or else so many for each nurse, and a number at least.
+/// How many searches a run may make: the number asked for, or else a number for each nurse, and at least a
+/// fixed one.
 fn searches_for(case: &Case, asked: Option<u32>) -> u32
     ensures { result ≡ searches_for case.now asked }
 {

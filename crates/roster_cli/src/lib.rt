@@ -1,11 +1,12 @@
-//! The program `roster` but for its `main`: what the words of a command line ask for, and the answer to it, from the bytes of the
-//! input to the output, the log and the status.
+//! The program `roster` except its `main`: what the words of a command line ask for, and the answer to it,
+//! from the bytes of the input to the output, the log and the status.
 //!
-//! What each command writes, and what is left where a run stops, is defined in `specs/Answer.antt`, how words are answered in
-//! `specs/Start.antt`. `run` promises the first end to end: with status 0 the input spells a bundle, and output and log are those of
-//! the command's report of what that bundle means; with another status, the fault and its line. `answer_words` promises the second:
-//! words that are no request are told so, and with status 0 the request is done and nothing of the output held back. `refuse`
-//! promises the same line and status for a fault outside of `run`.
+//! `specs/Answer.antt` defines what each command writes, and what is left if a run stops; `specs/Start.antt`
+//! defines how words are answered. `run` promises the answer from end to end: with status 0 the input spells
+//! a bundle, and output and log are those of the command's report of what that bundle means; with another
+//! status, there is the fault and its line. `answer_words` promises that words that are no request are
+//! reported as such, and that with status 0 the request is done and the output holds nothing back. `refuse`
+//! promises the line and the status of a fault outside of `run`.
 #![tactic(auto)]
 
 mod answer;
@@ -16,6 +17,6 @@ mod start;
 
 pub use answer::run;
 pub use roster_answers::refuse;
-pub use roster_joined::Joined;
+pub use roster_input::Joined;
 pub use roster_request::{CliFault, Command, Request, request_of};
 pub use start::{answer_command_line, answer_words};

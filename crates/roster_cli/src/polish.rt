@@ -1,4 +1,4 @@
-//! The command `polish`: a roster that is settled again and again, after kicks.
+//! The command `polish`: a fade and kicks, after each of which the roster is settled again.
 
 ghost use Rattle.std.specs.Prelude.{◌≡◌, min};
 ghost use Rattle.roster_polish.specs.Polished.{most_searches};
@@ -7,41 +7,42 @@ ghost use Rattle.roster_cli.specs.Answer.{IsPolishFor};
 
 use roster_answers::{Fault, Instance, hold, show_weeks};
 use roster_log::LogFault;
-use roster_partial::PartialTables;
-use roster_polish::{Course, MOST_SEARCHES, PolishSpace, polish, searches_have_room};
+use roster_partial::RowSearcher;
+use roster_polish::{Course, MOST_SEARCHES, PolishSpace, polish, searches_fit_meter};
 use roster_state::Meter;
 use roster_text::Watch;
 use std::alloc::Global;
 use std::io::Write;
 
-/// Writes the weeks of an instance after a run of kicks. The run's log goes to the log first, line by line as it is made.
+/// Writes the weeks of an instance after a run of a fade and kicks. The run's log goes to the log first, line
+/// by line as it is made.
 pub(crate) fn report_polish<'a, Out: Write, Log: Write>(
     alloc: Global,
     course: &Course,
-    source: &'a [u8],
     mut instance: Instance,
     output: &mut Watch<Out>,
     log: &mut Watch<Log>,
 ) -> Result<(), Fault<'a>>
     ensures { Reports (output_of Out.contents output.old output.new)
         (output_of Log.contents log.old log.new)
-        (IsPolishFor course.now instance) source.now instance.bundle (outcome_of result) }
+        (IsPolishFor course.now instance) instance.case (outcome_of result) }
 {
     let mut meter = Meter::new(&mut instance.case);
-    let mut held = hold(alloc, source, instance)?;
-    let Ok(mut space) = PolishSpace::<PartialTables>::for_held(alloc, &held) else {
+    let mut held = hold(alloc, instance)?;
+    let Ok(mut space) = PolishSpace::<RowSearcher>::for_held(alloc, &held) else {
         return Err(Fault::Workspace);
     };
-    let course = within_room(course);
-    searches_have_room(held.case(), course.searches);
+    let course = within_capacity(course);
+    searches_fit_meter(held.case(), course.searches);
     match polish(&mut held, &course, &mut space, &mut meter, log) {
         Ok(_) => show_weeks(held.case(), held.roster(), output),
         Err(LogFault::LogFailed { .. }) => Err(Fault::Log),
     }
 }
 
-/// A course with as many searches as a new meter surely has room for, where more are asked. The command line allows no more.
-pub(crate) fn within_room(course: &Course) -> Course
+/// The course, but with no more searches than a new meter surely has capacity for. The command line allows no
+/// more than that.
+pub(crate) fn within_capacity(course: &Course) -> Course
     ensures { result ≡ record course.now { searches = min course.now.searches most_searches } }
 {
     Course {

@@ -4,11 +4,11 @@ ghost use Rattle.std.specs.Prelude.{◌≡◌, [], codes, map, string_bytes};
 ghost use Rattle.std.specs.Io.KnownBytes.{Keeps};
 ghost use Rattle.std.specs.Io.Buffered.{writer_buffer, writer_contents};
 ghost use Rattle.roster_answers.specs.Answer.{Logs};
-ghost use Rattle.roster_cli.specs.Start.{AnswersWords, ReadsAndSends, SendsText, TellsWords, given_to};
+ghost use Rattle.roster_cli.specs.Start.{AnswersWords, ReadsAndSends, SendsText, PrintsWords, given_to};
 
 use crate::answer::run;
 use roster_answers::{refuse, refuse_output};
-use roster_joined::Joined;
+use roster_input::Joined;
 use roster_request::{CliFault, Request, request_of};
 use roster_text::{TextFault, Watch, write_bytes};
 use std::alloc::Global;
@@ -18,8 +18,8 @@ use std::{env, fs, io};
 
 const WORDS_ARE_NO_TEXT: &str = "error: a word of the command line is not UTF-8\n";
 
-/// Answers the command line of a program: reads the files that it names, or `input` where it names none, writes to
-/// `output`, and answers the status and the output.
+/// Answers the command line of a program: reads the files that it names, or `input` if it names none, writes
+/// to `output`, and answers the status and the output.
 pub fn answer_command_line<
     R: Env + Files + AllocGlobal,
     In: Read + Drop,
@@ -40,13 +40,14 @@ fn words_of(rt: &(impl Env + AllocGlobal)) -> Result<Vec<String>, CliFault> {
         Err(error) if error.kind() == ErrorKind::OutOfMemory => return Err(CliFault::Memory),
         Err(_) => return Err(CliFault::Usage(String::from_str(alloc, WORDS_ARE_NO_TEXT)?)),
     };
-    // A `collect` would try a growth again that is refused.
+    // `collect` would try an allocation again that was refused.
     let mut words = Vec::with_capacity(alloc, given.len())?;
     words.extend(given)?;
     Ok(words)
 }
 
-/// Does what these words ask for, the program's name the first of them. Answers the status and the output.
+/// Does what these words ask for, the program's name being the first of them. Answers the status and the
+/// output.
 pub fn answer_words<R: Files + AllocGlobal, In: Read + Drop, Out: Write + Drop, Log: Write>(
     rt: &R,
     words: &[String],
@@ -63,13 +64,13 @@ pub fn answer_words<R: Files + AllocGlobal, In: Read + Drop, Out: Write + Drop, 
     }
 }
 
-/// Tells why words are no request: a help text is what was asked for, and goes to the output.
+/// Reports why words are no request. A help text is what was asked for, so it goes to the output.
 fn refuse_words<Out: Write + Drop, Log: Write>(
     fault: CliFault,
     output: BufWriter<Out>,
     log: &mut Watch<Log>,
 ) -> (u8, BufWriter<Out>)
-    ensures told { TellsWords (writer_contents Out.contents) writer_buffer Log.contents fault
+    ensures printed { PrintsWords (writer_contents Out.contents) writer_buffer Log.contents fault
         result.0 output result.1 log.old log.new }
 {
     match fault {
@@ -97,7 +98,7 @@ fn help<Out: Write + Drop, Log: Write>(
     }
 }
 
-/// Answers a request over the files that it names, or over `input` where it names none.
+/// Answers a request over the files that it names, or over `input` if it names none.
 #[tactic(auto, using(crate::proofs::StartLemmas::no_text_fault_is_done, crate::proofs::StartLemmas::of_input))]
 fn answer_request<R: Files + AllocGlobal, In: Read + Drop, Out: Write + Drop, Log: Write>(
     rt: &R,
@@ -160,7 +161,7 @@ fn run_and_flush<In: Read + Drop, Out: Write + Drop, Log: Write>(
     flush(output, log)
 }
 
-/// Sends on what the output holds back.
+/// Sends on what is still in the output's buffer.
 fn flush<Out: Write + Drop, Log: Write>(
     mut output: BufWriter<Out>,
     log: &mut Watch<Log>,

@@ -5,7 +5,7 @@ use roster_devices::CallCounter;
 use std::io::Read;
 use std::test::Fail;
 
-/// Whether the reader gives these bytes, one a read, and then its end.
+/// Whether the reader gives these bytes, one for each read, and then its end.
 fn gives_by_one_byte(input: &mut impl Read, bytes: &[u8]) -> bool {
     let mut byte = [0];
     for given in bytes {

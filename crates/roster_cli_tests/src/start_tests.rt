@@ -15,14 +15,14 @@ use std::io::{BufWriter, ErrorKind, Read, Seek, SeekFrom, Write};
 use std::rt::{Env, Files};
 use std::test::Fail;
 
-/// The words of a command line, and the texts of all files that there are: their names are `a`, `b` and so on. A file
-/// of the name `memory` finds no memory.
+/// The words of a command line, and the texts of all files: their names are `a`, `b` and so on. For a file of
+/// the name `memory` there is no memory.
 #[derive(Drop)]
 struct Shelf<'a> {
     words: &'a [&'a [u8]],
     texts: &'a [&'a str],
-    /// What was done with the files, in decimal digits: the number of each that was opened, counted from 1, and a 9 for
-    /// reads.
+    /// What was done with the files, in decimal digits: for each file that was opened its number, counted
+    /// from 1, and a 9 for reads.
     done: &'a Cell<u32>,
 }
 
@@ -172,16 +172,16 @@ impl Env for Shelf<'_> {
     }
 }
 
-/// Takes what its room holds. A flush fails, if that is wanted.
+/// Takes what its buffer holds. Its flush can be made to fail.
 #[derive(Drop)]
 struct Stream<'a> {
-    room: ShortWriter<'a>,
+    writer: ShortWriter<'a>,
     flush_fails: bool,
 }
 
 impl Write for Stream<'_> {
     fn write(&mut self, buf: &[u8]) -> io::Result<usize> {
-        self.room.write(buf)
+        self.writer.write(buf)
     }
 
     fn flush(&mut self) -> io::Result<()> {
@@ -192,14 +192,14 @@ impl Write for Stream<'_> {
     }
 }
 
-/// How a start of the program ended: its status, what had reached the output's device, and the log.
+/// How a start of the program ended: its status, the bytes that had reached the output's device, and the log.
 type End<'a> = (u8, &'a str, &'a str);
 
 fn is_end(end: End<'_>, status: u8, output: &[u8], log: &[u8]) -> bool {
     end.0 == status && end.1.as_bytes() == output && end.2.as_bytes() == log
 }
 
-/// Whether the program, started over a shelf and this standard input, ends so.
+/// Whether the program, started over a shelf and this standard input, ends in this way.
 fn ends(
     alloc: Global,
     shelf: &Shelf<'_>,
@@ -207,21 +207,26 @@ fn ends(
     flush_fails: bool,
     end: End<'_>,
 ) -> Result<bool, Fail> {
-    let mut output_room = [0; 40];
-    let mut log_room = [0; 60];
+    let mut output_buffer = [0; 40];
+    let mut log_buffer = [0; 60];
     let stream = Stream {
-        room: ShortWriter::new(&mut output_room, AtEnd::Fail),
+        writer: ShortWriter::new(&mut output_buffer, AtEnd::Fail),
         flush_fails,
     };
     let output = BufWriter::new(alloc, stream)?;
-    let mut log = Watch::new(ShortWriter::new(&mut log_room, AtEnd::Fail));
+    let mut log = Watch::new(ShortWriter::new(&mut log_buffer, AtEnd::Fail));
     let (status, output) = answer_command_line(&(shelf, alloc), input.as_bytes(), output, &mut log);
     let log = log.into_inner();
-    Ok(is_end(end, status, output.get_ref().room.written(), log.written()))
+    Ok(is_end(
+        end,
+        status,
+        output.get_ref().writer.written(),
+        log.written(),
+    ))
 }
 
-/// Whether the program, with these words and mini in its first file, the second and third empty, ends so and did this
-/// with the files.
+/// Whether the program, with these words and mini in its first file, the second and third being empty, ends
+/// in this way and did this with the files.
 fn shows(alloc: Global, words: &[&[u8]], done: u32, end: End<'_>) -> Result<bool, Fail> {
     let did = Cell::new(0);
     let shelf = Shelf {
@@ -259,7 +264,7 @@ fn a_second_file_without_memory(rt: HostRuntime) -> Result<(), Fail> {
     Ok(())
 }
 
-/// Whether `show` over mini on standard input ends so.
+/// Whether `show` over mini on standard input ends in this way.
 fn shows_input(alloc: Global, flush_fails: bool, end: End<'_>) -> Result<bool, Fail> {
     let did = Cell::new(0);
     let shelf = Shelf {
@@ -277,7 +282,7 @@ fn a_flush_that_fails_after_a_full_answer(rt: HostRuntime) -> Result<(), Fail> {
     Ok(())
 }
 
-/// Whether the words ask for a run of so many rounds from a week on over these files.
+/// Whether the words ask for a run of this number of rounds from a week on over these files.
 fn asks_for_run(alloc: Global, words: &[&str], (rounds, from): (u16, u16), files: &[&str]) -> bool {
     let Ok(request) = request_of(alloc, words) else {
         return false;
@@ -290,7 +295,8 @@ fn asks_for_run(alloc: Global, words: &[&str], (rounds, from): (u16, u16), files
         && given.iter().map(|it| it.as_str()).eq(files.iter().copied())
 }
 
-/// Whether the words ask for a bound by so many rounds from a week on, at so many points for what is kept.
+/// Whether the words ask for a bound by this number of rounds from a week on, with this number of points for
+/// each changed day.
 fn asks_for_bound(alloc: Global, words: &[&str], (rounds, from, keep): (u16, u16, u16)) -> bool {
     let Ok(request) = request_of(alloc, words) else {
         return false;
@@ -299,7 +305,8 @@ fn asks_for_bound(alloc: Global, words: &[&str], (rounds, from, keep): (u16, u16
         if some == rounds && first == from && kept == keep)
 }
 
-/// How a run of searches is asked for: how many, by which seed, from which week on, and whether with kicks alone.
+/// How a run of searches is asked for: the number of searches, the seed, the first week that may change, and
+/// whether the run makes only kicks.
 type Asked = (Option<u32>, u32, u16, bool);
 
 /// Whether the words ask for such a run of searches.
@@ -311,7 +318,8 @@ fn asks_for_searches(alloc: Global, words: &[&str], (searches, seed, from, alone
         if some == searches && begin == seed && first == from && kicks_alone == alone)
 }
 
-/// Whether the words ask who may take the shift of this name on this day, with a skill or with any, from a week on.
+/// Whether the words ask who may take the shift of this name on this day, with a skill or with any, from a
+/// week on.
 fn asks_who(alloc: Global, words: &[&str], (day, shift, skill, from): Wanted<'_>) -> bool {
     let Ok(request) = request_of(alloc, words) else {
         return false;
@@ -332,7 +340,8 @@ fn asks_who(alloc: Global, words: &[&str], (day, shift, skill, from): Wanted<'_>
     on.as_str() == day && of.as_str() == shift && with == skill && *first == from
 }
 
-/// An assignment as words ask for it: its day, its shift, its skill if one is named, and the first week.
+/// An assignment as words ask for it: its day, its shift, its skill if one is named, and the first week that
+/// may change.
 type Wanted<'a> = (&'a str, &'a str, Option<&'a str>, u16);
 
 #[test]

@@ -5,7 +5,7 @@ use Rattle.roster_costs.specs.declared.runs.Kind.{Kind}
 use Rattle.roster_costs.specs.declared.runs.Kind.TheVariants.{Working, Free, Of}
 use Rattle.roster_instance.specs.Days.{is_shift}
 
--- a day with this shift, or none, is of the kind
+-- a day with this shift, or with none, is of the kind
 abbrev pub is_of : Kind → Option Shift → Bool
 is_of Working shift = is_some shift
 is_of Free shift = not (is_some shift)

@@ -1,4 +1,4 @@
 pub mod Kinds
 pub mod Sums
-pub mod Unmendable
+pub mod Irreparable
 pub mod Minimums

@@ -15,11 +15,12 @@ most_staffing_of_day = 134217728
 abbrev pub most_of_part : ℕ
 most_of_part = 4294967296
 
--- and what a rule costs: S2 has two parts, runs of working days and runs of a shift, and each other rule has one
+-- what a rule costs for a nurse at most: S2 has two parts, runs of working days and runs of a shift, and each
+-- other rule has one
 abbrev pub most_of_rule : ℕ
 most_of_rule = 2 * most_of_part
 
--- the costs with those of a nurse's days, by each rule but staffing
+-- the costs after a nurse's days have been added, by each rule but staffing
 abbrev pub with_nurse : Meaning → ℕ → Days → Costs → Costs
 with_nurse c n days k = record {
   s1 = k.s1;
@@ -33,7 +34,7 @@ with_nurse c n days k = record {
   s9 = k.s9 + keep_cost c n days;
 }
 
--- staffing, and the costs of the nurses before one
+-- staffing, and the costs of the nurses before n
 abbrev pub costs_before : Meaning → Rows → ℕ → Costs
 costs_before c r n = record {
   s1 = staffing_cost c r;
@@ -47,7 +48,7 @@ costs_before c r n = record {
   s9 = sum_below n (λ m. keep_cost c m (days_of_nurse r m));
 }
 
--- no sum but that of staffing is above what the rule costs for so many nurses at most
+-- no sum but that of staffing is above what the rule costs n nurses at most
 pub record AreWithin (k : Costs) (n : ℕ) : Type 0 where
   pub s2 : k.s2 ≤ most_of_rule * n
   pub s3 : k.s3 ≤ most_of_rule * n

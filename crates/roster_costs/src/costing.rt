@@ -4,7 +4,7 @@ ghost use Rattle.std.specs.Prelude.{◌≡◌, ◌+◌, ◌<◌, ◌≤◌, true
 ghost use Rattle.roster_instance.specs.Choices.{days_of};
 ghost use Rattle.roster_instance.specs.Meaning.{day_count, nurse_count};
 ghost use Rattle.roster_rules.specs.Penalties.{costs_of, nurse_cost, staffing_cost, total_cost};
-ghost use Rattle.roster_rules.specs.Room.{most_staffing, penalty_room};
+ghost use Rattle.roster_rules.specs.PenaltyBounds.{most_staffing, penalty_limit};
 ghost use Rattle.roster_costs.specs.Sums.{AreWithin, with_nurse};
 ghost use Rattle.roster_instance.specs.Rosters.{fits_case};
 
@@ -16,26 +16,26 @@ use crate::weekends::{split_cost, weekends_cost};
 use roster_instance::{Case, Choice, Roster};
 use roster_rules::Costs;
 
-/// What a roster costs by each soft rule. The hard rules are not asked for. Each row, and the nurses of each day, are gone
-/// through once for each count, whatever runs there are.
+/// What a roster costs by each soft rule. The hard rules may be broken. Each row, and the nurses of each day,
+/// are passed over once for each count, whatever runs there are.
 pub fn costs(case: &Case, roster: &Roster) -> Costs
     requires { fits_case case.now roster.now ≡ true }
     ensures costs { result ≡ costs_of case.now roster.now }
 
-    // No sum comes near the end of its numbers: the penalty is below 2^33, and the part of staffing is at most that of as
-    // many missing nurses as a pair can want, for each shift and skill on each day.
-    ensures within { total_cost result < penalty_room }
+    // No sum overflows: the penalty is below 2^33, and the staffing costs at most what it would if each slot
+    // were short by the greatest number of nurses that a pair can ask for.
+    ensures within { total_cost result < penalty_limit }
     ensures staffing { result.s1 ≤ most_staffing }
 {
     costs_with(case, roster, staffing_cost(case, roster))
 }
 
-/// The same where it is known what the staffing costs.
+/// The same if the cost of the staffing is already known.
 pub fn costs_with(case: &Case, roster: &Roster, staffing: u64) -> Costs
     requires fitting { fits_case case.now roster.now ≡ true }
     requires staffing { staffing ≡ staffing_cost case.now roster.now }
     ensures costs { result ≡ costs_of case.now roster.now }
-    ensures within { total_cost result < penalty_room }
+    ensures within { total_cost result < penalty_limit }
     ensures staffing { result.s1 ≤ most_staffing }
 {
     case.keeps_limits();
@@ -79,7 +79,7 @@ fn by_rule(case: &Case, roster: &Roster, staffing: u64) -> Costs
     costs
 }
 
-/// Adds what a nurse's row costs by each rule but staffing.
+/// Adds what a nurse's row costs by each rule except staffing.
 fn add_nurse(costs: &mut Costs, case: &Case, nurse: usize, row: &[Choice])
     requires nurse { nurse < nurse_count case.now }
     requires days { length row.now ≡ day_count case.now }

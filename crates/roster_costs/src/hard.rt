@@ -7,13 +7,13 @@ ghost use Rattle.roster_rules.specs.declared.fault.HardFault.TheVariants.{H2};
 ghost use Rattle.roster_instance.specs.Meaning.{day_count, nurse_count, shift_count, skill_count, minimum};
 ghost use Rattle.roster_instance.specs.Rosters.{fits_case};
 
-use crate::staffing::{covers, place};
+use crate::staffing::{covers, slot};
 use roster_instance::{Case, Roster, Shift, Skill};
 use roster_rules::{HardFault, is_able, is_here, last_shift};
 
-/// The first breach of the hard rules: first too few nurses, by day, shift and skill; then forbidden successions, by nurse and
-/// day; then skills that a nurse lacks, by nurse and day; then work of absent nurses, by nurse and day. None where the roster
-/// keeps them all.
+/// The first breach of the hard rules: first slots with too few nurses, by day, shift and skill; then
+/// forbidden successions, by nurse and day; then skills that a nurse doesn't have, by nurse and day; then
+/// work of absent nurses, by nurse and day. None if the roster keeps them all.
 #[tactic(auto, using(roster_rules::proofs::HardLemmas::first_fault_of_both), unfolding(roster_rules::specs::HardRules::hard_faults))]
 pub fn first_hard(case: &Case, roster: &Roster) -> Option<HardFault>
     requires { fits_case case.now roster.now ≡ true }
@@ -40,7 +40,7 @@ fn first_understaffed(case: &Case, roster: &Roster) -> Option<HardFault>
     first_understaffed_before(case, roster, case.days())
 }
 
-/// The first place with too few nurses on the first so many days, by day, shift and skill.
+/// The first slot with too few nurses on the first days, by day, shift and skill.
 #[tactic(auto, using(roster_rules::proofs::HardLemmas::below_more))]
 fn first_understaffed_before(case: &Case, roster: &Roster, days: u16) -> Option<HardFault>
     requires fitting { fits_case case.now roster.now ≡ true }
@@ -56,7 +56,7 @@ fn first_understaffed_before(case: &Case, roster: &Roster, days: u16) -> Option<
     None
 }
 
-/// The first place with too few nurses on a day, by shift and skill. The day's nurses are counted once.
+/// The first slot with too few nurses on a day, by shift and skill. The day's nurses are counted once.
 pub fn understaffed_on(case: &Case, roster: &Roster, day: u16) -> Option<HardFault>
     requires { fits_case case.now roster.now ≡ true }
     ensures { result ≡ first_fault (below (shift_count case.now)
@@ -66,7 +66,7 @@ pub fn understaffed_on(case: &Case, roster: &Roster, day: u16) -> Option<HardFau
     let covers = covers(case, roster, day);
     for shift in 0..shifts {
         for skill in 0..skills {
-            let have = covers[place(Shift(shift), Skill(skill))];
+            let have = covers[slot(Shift(shift), Skill(skill))];
             if let Some(fault) = understaffed(case, day, Shift(shift), Skill(skill), have) {
                 return Some(fault);
             }
@@ -75,7 +75,7 @@ pub fn understaffed_on(case: &Case, roster: &Roster, day: u16) -> Option<HardFau
     None
 }
 
-/// The breach where so many nurses are fewer than the minimum.
+/// The breach if a slot has fewer nurses than its minimum.
 fn understaffed(case: &Case, day: u16, shift: Shift, skill: Skill, have: u16) -> Option<HardFault>
     ensures { result ≡ first_fault (fault_if (nat_lt have (minimum case.now day shift.0 skill.0))
         (H2 day shift skill have (minimum case.now day shift.0 skill.0))) }
@@ -102,7 +102,7 @@ fn first_succession(case: &Case, roster: &Roster) -> Option<HardFault>
     first_succession_before(case, roster, case.days())
 }
 
-/// The first forbidden succession on the first so many days, by nurse and day.
+/// The first forbidden succession on the first days, by nurse and day.
 #[tactic(auto, using(roster_rules::proofs::HardLemmas::below_more))]
 pub fn first_succession_before(case: &Case, roster: &Roster, days: u16) -> Option<HardFault>
     requires fitting { fits_case case.now roster.now ≡ true }
@@ -117,7 +117,7 @@ pub fn first_succession_before(case: &Case, roster: &Roster, days: u16) -> Optio
     None
 }
 
-/// The first forbidden succession of a nurse on these days, the history's last shift included.
+/// The first forbidden succession of a nurse on the first days, the history's last shift included.
 fn succession_of(case: &Case, roster: &Roster, nurse: usize, days: u16) -> Option<HardFault>
     requires fitting { fits_case case.now roster.now ≡ true }
     requires within { nurse < nurse_count case.now }
@@ -139,7 +139,7 @@ fn succession_of(case: &Case, roster: &Roster, nurse: usize, days: u16) -> Optio
 
 // ---- skills
 
-/// The first day, by nurse, on which a nurse lacks the skill.
+/// The first day, by nurse, on which a nurse doesn't have the skill.
 #[tactic(auto, using(roster_rules::proofs::HardLemmas::below_more))]
 pub fn first_unskilled(case: &Case, roster: &Roster) -> Option<HardFault>
     requires { fits_case case.now roster.now ≡ true }
@@ -179,7 +179,7 @@ fn first_absent(case: &Case, roster: &Roster) -> Option<HardFault>
     first_absent_before(case, roster, case.days())
 }
 
-/// The first work of an absent nurse on the first so many days, by nurse and day.
+/// The first work of an absent nurse on the first days, by nurse and day.
 #[tactic(auto, using(roster_rules::proofs::HardLemmas::below_more))]
 pub fn first_absent_before(case: &Case, roster: &Roster, days: u16) -> Option<HardFault>
     requires fitting { fits_case case.now roster.now ≡ true }

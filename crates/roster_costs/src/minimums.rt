@@ -1,13 +1,13 @@
-//! How many nurses the minimums miss.
+//! The number of nurses by which a roster falls short of its minimums.
 
 ghost use Rattle.std.specs.Prelude.{◌≡◌, ◌<◌, ◌≤◌};
 ghost use Rattle.roster_instance.specs.Meaning.{day_count, minimum};
-ghost use Rattle.roster_laws.specs.Staffing.{lacking};
+ghost use Rattle.roster_laws.specs.Staffing.{shortfall};
 ghost use Rattle.roster_costs.specs.Minimums.{missing, present};
 
 use roster_instance::{Case, Choice, Roster, Shift, Skill, choice_on};
 
-/// How many nurses all minimums miss, where absent ones don't count.
+/// The number of nurses by which a roster falls short of its minimums. Absent nurses aren't counted.
 #[tactic(auto, using(roster_rules::proofs::CountLemmas::sum_more))]
 pub fn missing(case: &Case, roster: &Roster) -> u64
     ensures { result ≡ missing case.now roster.now }
@@ -19,11 +19,11 @@ pub fn missing(case: &Case, roster: &Roster) -> u64
     missing
 }
 
-/// How many nurses the minimums of a day miss.
+/// The shortfall of a day.
 #[tactic(auto, using(roster_rules::proofs::CountLemmas::sum_more))]
 fn missing_on(case: &Case, roster: &Roster, day: u16) -> u32
     requires { day < day_count case.now }
-    ensures missing { result ≡ lacking case.now (minimum case.now day)
+    ensures missing { result ≡ shortfall case.now (minimum case.now day)
         (present case.now roster.now day) }
     ensures within { result ≤ 4194304 }
 {
@@ -39,7 +39,7 @@ fn missing_on(case: &Case, roster: &Roster, day: u16) -> u32
     missing
 }
 
-/// How many nurses work a shift with a skill on a day, absent ones aside.
+/// How many nurses work in a slot, not counting absent ones.
 fn present(case: &Case, roster: &Roster, day: u16, shift: Shift, skill: Skill) -> u16
     ensures { result ≡ present case.now roster.now day shift.0 skill.0 }
 {

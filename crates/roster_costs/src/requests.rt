@@ -53,7 +53,7 @@ pub(crate) fn wish_cost(case: &Case, nurse: usize, row: &[Choice]) -> u64
     cost
 }
 
-/// S9. The points for each day that becomes another than in the roster that is kept.
+/// S9. The points for each day that differs from the roster that is kept.
 pub(crate) fn keep_cost(case: &Case, nurse: usize, row: &[Choice]) -> u64
     requires { length row.now ≤ most_days }
     ensures cost { result ≡ keep_cost case.now nurse (days_of row.now) }

@@ -1,4 +1,4 @@
-//! The runs of a row: how far they miss what a contract or a shift asks for.
+//! The runs of a row: how far they are outside what a contract or a shift asks for.
 
 ghost use Rattle.std.specs.Prelude.{◌≡◌, ◌+◌, ◌*◌, ◌<◌, ◌≤◌, if◌then◌else◌, length};
 ghost use Rattle.roster_instance.specs.Choices.{days_of};
@@ -43,7 +43,7 @@ pub(crate) fn free_run_cost(case: &Case, nurse: usize, row: &[Choice]) -> u64
     FREE_RUN as u64 * run_violations(limits, before, row, Kind::Free)
 }
 
-/// S2. The same of the runs of all shifts.
+/// S2. The same for the runs of all shifts.
 #[tactic(auto, using(roster_rules::proofs::CountLemmas::sum_more))]
 pub(crate) fn shift_run_cost(case: &Case, nurse: usize, row: &[Choice]) -> u64
     requires { length row.now ≤ most_days }
@@ -68,7 +68,7 @@ fn run_cost_of_shift(case: &Case, nurse: usize, row: &[Choice], shift: Shift) ->
     SHIFT_RUN as u64 * run_violations(limits, before, row, Kind::Of(shift))
 }
 
-// ---- how many days of a kind stand in a row right before the first Monday
+// ---- how many days of a kind come right before the first Monday
 
 fn worked_before(border: Border) -> u16
     ensures { result ≡ worked_before border }
@@ -103,8 +103,8 @@ fn shift_run_before(shift: Shift, border: Border) -> u16
 
 // ---- runs of a kind
 
-/// The missing and the extra days of all runs of a kind. It goes through the row once, with the length of the run that is
-/// open; `before` is the length of the one that stands before the first Monday.
+/// The missing and the extra days of all runs of a kind. It goes through the row once, with the length of the
+/// open run; `before` is the length of the run before the first Monday.
 fn run_violations(limits: Limits, before: u16, row: &[Choice], kind: Kind) -> u64
     requires { length row.now ≤ most_days }
     ensures violations { result ≡ run_violations limits before

@@ -1,4 +1,4 @@
-//! The staffing of a roster against the optimum.
+//! The staffing of a roster compared with the optimum.
 
 ghost use Rattle.std.specs.Prelude.{◌≡◌, ℕ, ◌+◌, ◌*◌, ◌<◌, ◌≤◌, true};
 ghost use Rattle.roster_rules.specs.Covers.{AreCovers, IsTable};
@@ -11,7 +11,7 @@ ghost use Rattle.roster_instance.specs.Rosters.{fits_case};
 use roster_instance::{Case, Choice, Roster, Shift, Skill, choice_on};
 use roster_rules::weights::STAFFING;
 
-/// S1. The points for each nurse missing to the optimum of a day, shift and skill.
+/// S1. The points for each nurse by whom a slot is short of its optimum.
 #[tactic(auto, using(roster_rules::proofs::CountLemmas::sum_more))]
 pub fn staffing_cost(case: &Case, roster: &Roster) -> u64
     requires { fits_case case.now roster.now ≡ true }
@@ -26,7 +26,7 @@ pub fn staffing_cost(case: &Case, roster: &Roster) -> u64
     cost
 }
 
-/// The same of a day, by its table.
+/// The same for a day, by its table of cover.
 #[tactic(auto, using(roster_rules::proofs::CountLemmas::sum_more))]
 pub fn staffing_cost_of_day(case: &Case, day: u16, covers: &[u16; 64]) -> u64
     ensures cost { (have : ℕ → ℕ → ℕ) → IsTable have covers.now →
@@ -38,14 +38,14 @@ pub fn staffing_cost_of_day(case: &Case, day: u16, covers: &[u16; 64]) -> u64
     for shift in 0..shifts {
         for skill in 0..skills {
             let optimum = case.need(day, Shift(shift), Skill(skill)).optimum;
-            let have = covers[place(Shift(shift), Skill(skill))];
+            let have = covers[slot(Shift(shift), Skill(skill))];
             cost += STAFFING as u64 * optimum.saturating_sub(have) as u64;
         }
     }
     cost
 }
 
-/// How many nurses work each shift with each skill on a day, each at its place.
+/// The cover of each slot of a day.
 pub fn covers(case: &Case, roster: &Roster, day: u16) -> [u16; 64]
     requires fitting { fits_case case.now roster.now ≡ true }
     requires shifts { shift_count case.now ≤ most_shifts }
@@ -55,16 +55,16 @@ pub fn covers(case: &Case, roster: &Roster, day: u16) -> [u16; 64]
     let mut counts = [0; 64];
     for nurse in 0..case.nurses() {
         if let Choice::Work(shift, skill) = choice_on(roster.row(nurse), day) {
-            counts[place(shift, skill)] += 1;
+            counts[slot(shift, skill)] += 1;
         }
     }
     counts
 }
 
-/// Where a table of a day has a shift and skill.
-pub fn place(shift: Shift, skill: Skill) -> usize
+/// The index of a shift and skill in a day's table.
+pub fn slot(shift: Shift, skill: Skill) -> usize
     requires { shift.0 < 8 × skill.0 < 8 }
-    ensures place { result ≡ 8 * shift.0 + skill.0 }
+    ensures slot { result ≡ 8 * shift.0 + skill.0 }
     ensures within { result < 64 }
 {
     8 * shift.0 as usize + skill.0 as usize

@@ -1,4 +1,4 @@
-//! What the worked days of a row cost beside their limits.
+//! What the number of worked days of a row costs, compared with its limits.
 
 ghost use Rattle.std.specs.Prelude.{◌≡◌, ◌≤◌, length};
 ghost use Rattle.roster_instance.specs.Choices.{days_of};
@@ -10,7 +10,7 @@ ghost use Rattle.roster_rules.specs.Penalties.{totals_cost};
 use roster_instance::{Case, Choice};
 use roster_rules::weights::ASSIGNMENT;
 
-/// S6. The points for each assignment below the least or above the greatest total, the history's counted in.
+/// S6. The points for each assignment below the least or above the greatest total, including the history's.
 pub(crate) fn totals_cost(case: &Case, nurse: usize, row: &[Choice]) -> u64
     requires { length row.now ≤ most_days }
     ensures cost { result ≡ totals_cost case.now nurse (days_of row.now) }
@@ -23,7 +23,7 @@ pub(crate) fn totals_cost(case: &Case, nurse: usize, row: &[Choice]) -> u64
     ASSIGNMENT as u64 * missing + ASSIGNMENT as u64 * extra
 }
 
-/// How many days are worked.
+/// The number of worked days.
 fn days_worked(row: &[Choice]) -> u64
     requires { length row.now ≤ most_days }
     ensures days { result ≡ days_worked (days_of row.now) }

@@ -10,7 +10,8 @@ ghost use Rattle.roster_rules.specs.Penalties.{split_cost, weekends_cost};
 use roster_instance::{Case, Choice};
 use roster_rules::weights::{SPLIT, WEEKEND};
 
-/// S5. The points for each weekend of which exactly one day is worked, where the contract wants whole weekends.
+/// S5. The points for each weekend of which exactly one day is worked, if the contract wants complete
+/// weekends.
 pub(crate) fn split_cost(case: &Case, nurse: usize, row: &[Choice], weeks: u16) -> u64
     requires days { length row.now ≡ 7 * weeks }
     requires weeks { weeks ≤ most_weeks }
@@ -23,7 +24,7 @@ pub(crate) fn split_cost(case: &Case, nurse: usize, row: &[Choice], weeks: u16) 
     SPLIT as u64 * split_weekends(row, weeks)
 }
 
-/// S7. The points for each worked weekend above the greatest number, the history's counted in.
+/// S7. The points for each worked weekend above the greatest number, including the history's.
 pub(crate) fn weekends_cost(case: &Case, nurse: usize, row: &[Choice], weeks: u16) -> u64
     requires days { length row.now ≡ 7 * weeks }
     requires weeks { weeks ≤ most_weeks }
@@ -34,7 +35,7 @@ pub(crate) fn weekends_cost(case: &Case, nurse: usize, row: &[Choice], weeks: u1
     WEEKEND as u64 * weekends.saturating_sub(case.contract_rules(nurse).weekends as u64)
 }
 
-/// How many weekends have a worked day.
+/// The number of weekends with a worked day.
 fn worked_weekends(row: &[Choice], weeks: u16) -> u64
     requires days { length row.now ≡ 7 * weeks }
     requires weeks { weeks ≤ most_weeks }
@@ -51,7 +52,7 @@ fn worked_weekends(row: &[Choice], weeks: u16) -> u64
     count
 }
 
-/// How many weekends have exactly one.
+/// The number of weekends with exactly one worked day.
 fn split_weekends(row: &[Choice], weeks: u16) -> u64
     requires days { length row.now ≡ 7 * weeks }
     requires weeks { weeks ≤ most_weeks }

@@ -1,9 +1,9 @@
-//! How many steps searches take. A contract says how many at most, and a search that gives all to the tables keeps to that too. So each
-//! is held to what it took when that was stored, and a tenth more.
+//! How many extensions searches make. A contract states how many at most, and a search that goes to the
+//! tables at once keeps to that too. So each is held to the number that is stored for it, and a tenth more.
 
-use crate::stored::{LAST_WEEK_STEPS, LIKE_STEPS, WARD_STEPS, YEAR_STEPS};
+use crate::stored::{LAST_WEEK_EXTENSIONS, LIKE_EXTENSIONS, WARD_EXTENSIONS, YEAR_EXTENSIONS};
 use crate::ward::WARD_TEXT;
-use roster_best::{Workspace, best_row, most_steps};
+use roster_best::{Workspace, best_row, most_search_extensions};
 use roster_case::{Case, Held, Roster};
 use roster_state::Meter;
 use roster_text::{parse_bundle, tokens};
@@ -11,7 +11,7 @@ use roster_wards::{Kind, Size};
 use std::alloc::Global;
 use std::test::Fail;
 
-/// A held roster, and what searches in it write into and count on.
+/// A held roster, with the workspace and the meter of searches in it.
 type Ready = (Held, Workspace, Meter);
 
 /// The roster of a text.
@@ -30,7 +30,7 @@ fn ready(alloc: Global, source: &[u8]) -> Result<Ready, Fail> {
     }
 }
 
-/// How many steps a nurse's search takes from a week on. Her best row is put in.
+/// How many extensions a nurse's search makes from a week on. Her best row is put in.
 fn search(
     held: &mut Held,
     nurse: usize,
@@ -40,7 +40,7 @@ fn search(
 ) -> Result<u64, Fail> {
     let case = held.case();
     let can_search = nurse < case.nurses() && workspace.fits(case);
-    if !can_search || meter.room() < most_steps(case, nurse) {
+    if !can_search || meter.room() < most_search_extensions(case, nurse) {
         return Err(Fail::new("no room"));
     }
     let before = meter.count();
@@ -49,28 +49,32 @@ fn search(
     Ok(meter.count() - before)
 }
 
-/// How many steps the searches of a text's nurses take from a week on, one after another, in two rounds.
-fn steps_of<const N: usize>(
+/// How many extensions the searches for a text's nurses make from a week on, one after another, in two
+/// rounds.
+fn extensions_of<const N: usize>(
     alloc: Global,
     source: &[u8],
     from: u16,
 ) -> Result<[[u64; N]; 2], Fail> {
     let (mut held, mut workspace, mut meter) = ready(alloc, source)?;
-    let mut steps = [[0; N]; 2];
+    let mut extensions = [[0; N]; 2];
     for round in 0..2_usize {
         for nurse in 0..N {
-            steps[round][nurse] = search(&mut held, nurse, from, &mut workspace, &mut meter)?;
+            extensions[round][nurse] = search(&mut held, nurse, from, &mut workspace, &mut meter)?;
         }
     }
-    Ok(steps)
+    Ok(extensions)
 }
 
-/// Whose search takes more than a tenth above what is stored, if one does: the round and the nurse of the first.
-fn above<const N: usize>(steps: &[[u64; N]; 2], stored: &[[u64; N]; 2]) -> Option<(usize, usize)> {
+/// The round and the nurse of the first search that makes over a tenth more than is stored, if one does.
+fn above<const N: usize>(
+    extensions: &[[u64; N]; 2],
+    stored: &[[u64; N]; 2],
+) -> Option<(usize, usize)> {
     for round in 0..2_usize {
         for nurse in 0..N {
             let usual = stored[round][nurse];
-            if steps[round][nurse] > usual.saturating_add(usual / 10) {
+            if extensions[round][nurse] > usual.saturating_add(usual / 10) {
                 return Some((round, nurse));
             }
         }
@@ -79,24 +83,27 @@ fn above<const N: usize>(steps: &[[u64; N]; 2], stored: &[[u64; N]; 2]) -> Optio
 }
 
 #[test]
-fn steps_of_the_ward(rt: HostRuntime) -> Result<(), Fail> {
-    let steps = steps_of::<12>(rt.alloc(), WARD_TEXT.as_bytes(), 0)?;
-    let above = above(&steps, &WARD_STEPS);
-    assert!(rt; above.is_none(), "{above:?} WARD_STEPS {steps:?}");
+fn extensions_of_the_ward(rt: HostRuntime) -> Result<(), Fail> {
+    let extensions = extensions_of::<12>(rt.alloc(), WARD_TEXT.as_bytes(), 0)?;
+    let above = above(&extensions, &WARD_EXTENSIONS);
+    assert!(rt; above.is_none(), "{above:?} WARD_EXTENSIONS {extensions:?}");
     Ok(())
 }
 
-/// Few states stand where most weeks are frozen, so that the tables search at once.
+/// Few states are reachable if most weeks are frozen, so the search goes to the tables at once.
 #[test]
-fn steps_in_the_last_week(rt: HostRuntime) -> Result<(), Fail> {
-    let steps = steps_of::<12>(rt.alloc(), WARD_TEXT.as_bytes(), 3)?;
-    let above = above(&steps, &LAST_WEEK_STEPS);
-    assert!(rt; above.is_none(), "{above:?} LAST_WEEK_STEPS {steps:?}");
+fn extensions_in_the_last_week(rt: HostRuntime) -> Result<(), Fail> {
+    let extensions = extensions_of::<12>(rt.alloc(), WARD_TEXT.as_bytes(), 3)?;
+    let above = above(&extensions, &LAST_WEEK_EXTENSIONS);
+    assert!(rt;
+        above.is_none(),
+        "{above:?} LAST_WEEK_EXTENSIONS {extensions:?}"
+    );
     Ok(())
 }
 
 #[test]
-fn steps_of_thirty_nurses(rt: HostRuntime) -> Result<(), Fail> {
+fn extensions_of_thirty_nurses(rt: HostRuntime) -> Result<(), Fail> {
     let size = Size {
         kind: Kind::Ward,
         nurses: 30,
@@ -104,14 +111,14 @@ fn steps_of_thirty_nurses(rt: HostRuntime) -> Result<(), Fail> {
         seed: 1,
     };
     let text = size.bundle(rt.alloc(), 0)?;
-    let steps = steps_of::<30>(rt.alloc(), &text, 0)?;
-    let above = above(&steps, &LIKE_STEPS);
-    assert!(rt; above.is_none(), "{above:?} LIKE_STEPS {steps:?}");
+    let extensions = extensions_of::<30>(rt.alloc(), &text, 0)?;
+    let above = above(&extensions, &LIKE_EXTENSIONS);
+    assert!(rt; above.is_none(), "{above:?} LIKE_EXTENSIONS {extensions:?}");
     Ok(())
 }
 
 #[test]
-fn steps_over_a_year(rt: HostRuntime) -> Result<(), Fail> {
+fn extensions_over_a_year(rt: HostRuntime) -> Result<(), Fail> {
     let size = Size {
         kind: Kind::Year,
         nurses: 12,
@@ -119,8 +126,8 @@ fn steps_over_a_year(rt: HostRuntime) -> Result<(), Fail> {
         seed: 1,
     };
     let text = size.bundle(rt.alloc(), 0)?;
-    let steps = steps_of::<12>(rt.alloc(), &text, 0)?;
-    let above = above(&steps, &YEAR_STEPS);
-    assert!(rt; above.is_none(), "{above:?} YEAR_STEPS {steps:?}");
+    let extensions = extensions_of::<12>(rt.alloc(), &text, 0)?;
+    let above = above(&extensions, &YEAR_EXTENSIONS);
+    assert!(rt; above.is_none(), "{above:?} YEAR_EXTENSIONS {extensions:?}");
     Ok(())
 }

@@ -1,4 +1,5 @@
-//! What a search takes beside what its contract says: how many steps, by tests, and how many bytes that don't grow with the case.
+//! What a search takes, as well as what its contract states: the number of extensions, by tests, and the
+//! number of bytes that don't depend on the case.
 #![tactic(auto)]
 
 #[cfg(test)]

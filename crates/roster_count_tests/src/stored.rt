@@ -1,6 +1,7 @@
-//! How many steps each nurse's search took, in a first round and in a second, when `tools/store-steps` wrote this.
+//! How many extensions each nurse's search made, in a first round and in a second, when
+//! `tools/store-extensions` wrote this.
 
-pub const WARD_STEPS: [[u64; 12]; 2] = [
+pub const WARD_EXTENSIONS: [[u64; 12]; 2] = [
     [
         94237, 91297, 283366, 293137, 195385, 97776, 94176, 90726, 272256, 282675, 87383, 251037,
     ],
@@ -9,7 +10,7 @@ pub const WARD_STEPS: [[u64; 12]; 2] = [
     ],
 ];
 
-pub const LAST_WEEK_STEPS: [[u64; 12]; 2] = [
+pub const LAST_WEEK_EXTENSIONS: [[u64; 12]; 2] = [
     [
         1428, 1186, 180, 1247, 738, 408, 295, 833, 270, 712, 1463, 679,
     ],
@@ -18,7 +19,7 @@ pub const LAST_WEEK_STEPS: [[u64; 12]; 2] = [
     ],
 ];
 
-pub const LIKE_STEPS: [[u64; 30]; 2] = [
+pub const LIKE_EXTENSIONS: [[u64; 30]; 2] = [
     [
         101280, 115282, 108171, 325043, 13483, 293070, 303951, 111647, 115367, 94435, 101152,
         101541, 97682, 101272, 324645, 356196, 104960, 90702, 223144, 104655, 115991, 334657,
@@ -31,7 +32,7 @@ pub const LIKE_STEPS: [[u64; 30]; 2] = [
     ],
 ];
 
-pub const YEAR_STEPS: [[u64; 12]; 2] = [
+pub const YEAR_EXTENSIONS: [[u64; 12]; 2] = [
     [
         3707242, 579034, 1399994, 284541, 1501014, 553239, 281723, 883973, 295974, 286329, 1684444,
         288496,

@@ -1,4 +1,4 @@
-//! The ward of twelve, as it stands in `examples/ward.txt`.
+//! The ward of twelve nurses, as in `examples/ward.txt`.
 
 pub const WARD_TEXT: &str = "SCENARIO = ward12
 

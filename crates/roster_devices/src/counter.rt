@@ -7,17 +7,17 @@ ghost use Rattle.std.specs.Io.KnownBytes.{Keeps, ReadConsumes, WriteAppends};
 use std::io;
 use std::io::{ErrorKind, Read, Write};
 
-/// Counts the reads, writes and flushes that come to a device, and lets the first of them fail.
+/// Counts the reads, writes and flushes of a device, and makes the first of them fail.
 #[derive(Drop)]
 pub struct CallCounter<T> {
     pub device: T,
     pub calls: u64,
-    /// How many more calls fail. One that fails doesn't reach the device.
+    /// How many of the next calls fail. A call that fails doesn't reach the device.
     pub failing: u64,
 }
 
 impl<T> CallCounter<T> {
-    /// A counter over a device, of which the first `failing` calls fail.
+    /// A counter over a device. The first `failing` calls fail.
     pub fn new(device: T, failing: u64) -> CallCounter<T>
         ensures device { result.device ≡ device }
         ensures calls { result.calls ≡ 0 }

@@ -1,5 +1,5 @@
-//! Readers and writers for tests: they give or take little at a time, fail where a test wants it, count their calls, or
-//! never end.
+//! Readers and writers for tests: they give or take little at a time, fail when a test wants it, count their
+//! calls, or never end.
 #![tactic(auto)]
 
 mod counter;

@@ -27,8 +27,8 @@ impl Read for OneByteReader<'_> {
     }
 }
 
-/// Gives the bytes of a slice, but one read fails: the one that is `fails_in` reads ahead, counted from 1. At 0 no
-/// read fails any more. The reads after the failure go on where those before it ended.
+/// Gives the bytes of a slice, but one read fails: the one that is `fails_in` reads ahead, counted from 1. At
+/// 0 no read fails any more. After the failure the reads go on from where those before it ended.
 #[derive(Drop)]
 pub struct FailingReader<'a> {
     pub rest: &'a [u8],
@@ -57,7 +57,7 @@ impl Read for FailingReader<'_> {
     }
 }
 
-/// Gives one byte for ever.
+/// Gives one byte forever.
 #[derive(Drop)]
 pub struct EndlessReader {
     pub byte: u8,

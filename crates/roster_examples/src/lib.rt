@@ -1,5 +1,6 @@
-//! Worked examples of the definitions of a case: what they say of the text of a small instance (`specs/MiniText.antt`), and of
-//! texts that differ from it in a few lines. The functions do nothing; a check computes their clauses.
+//! Worked examples of the definitions of a case: what they give for the text of a small instance
+//! (`specs/MiniText.antt`), and for texts that differ from it in a few lines. The functions do nothing; a
+//! check computes their clauses.
 #![tactic(auto)]
 
 mod worked;

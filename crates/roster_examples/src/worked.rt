@@ -1,4 +1,5 @@
-//! Worked examples: what the definitions say of a small instance and of texts that differ from it in a few lines.
+//! Worked examples: what the definitions give for a small instance and for texts that differ from it in a few
+//! lines.
 #![tactic(auto, unfolding(roster_bundle::specs::Token::tokens_from, roster_bundle::specs::Token::token_at, roster_bundle::specs::Token::begins_at, roster_bundle::specs::Token::end_from, roster_bundle::specs::Token::is_separator, roster_bundle::specs::Token::is_mark, roster_bundle::specs::Token::is_word_byte, roster_bundle::specs::Token::follows_word_byte, roster_bundle::specs::Token::line_feeds, roster_text::specs::Reading::bundle_at, roster_text::specs::Reading::title_at, roster_text::specs::Reading::scenario_at, roster_text::specs::Reading::section_at, roster_text::specs::Reading::listed_at, roster_text::specs::Reading::times_at, roster_text::specs::Reading::shift_type_at, roster_text::specs::Reading::pair_at, roster_text::specs::Reading::until_with, roster_text::specs::Reading::succession_at, roster_text::specs::Reading::names_at, roster_text::specs::Reading::contract_at, roster_text::specs::Reading::nurse_at, roster_text::specs::Reading::history_at, roster_text::specs::Reading::nurse_history_at, roster_text::specs::Reading::week_data_at, roster_text::specs::Reading::requirement_at, roster_text::specs::Reading::week_pairs_at, roster_text::specs::Reading::solution_at, roster_text::specs::Reading::assignment_at, roster_text::specs::Reading::request_at, roster_text::specs::Reading::nurse_day_at, roster_text::specs::Reading::optional_at, roster_instance::specs::Tables::table_of, roster_instance::specs::Bundles::requests_meant, roster_instance::specs::Bundles::days_meant, roster_instance::specs::Bundles::meaning_of, roster_instance::specs::Bundles::rows_of, roster_instance::specs::Refusals::case_faults, roster_instance::specs::Refusals::roster_faults, roster_instance::specs::Sizes::state_count, roster_instance::specs::Sizes::choice_count, roster_rules::specs::HardRules::hard_faults, roster_rules::specs::Penalties::costs_of, roster_rules::specs::Penalties::penalty, roster_rules::specs::Runs::run_violations, roster_rules::specs::Runs::open_run))]
 
 ghost use Rattle.std.specs.Prelude.{◌≡◌, [], ◌∷◌, None, Some, codes, take, true, false};
@@ -64,8 +65,8 @@ pub fn breaches_of_the_hard_rules()
         ≡ Some (HardFault.H4 bob 1 ∷ []) }
 {}
 
-/// Work of an absent nurse, told after a skill that one lacks, and a second line of the same nurse and day. The section stands
-/// after the wishes where the week has both.
+/// Work of an absent nurse comes after work with a skill that the nurse lacks, and a line may repeat a nurse
+/// and a day. In a week with both, the section comes after the wishes.
 pub fn breaches_of_absences()
     ensures work { breaches_in (requested (codes "0 ABSENCES = 1 Bob Tue")
         bob_early_on_tuesday) ≡ Some (HardFault.Absent bob 1 ∷ []) }
@@ -88,8 +89,8 @@ pub fn breaches_of_absences()
         (requested (codes "0 ABSENCES = 0 SHIFT_ON_REQUESTS = 0") mini_lines) ≡ None }
 {}
 
-/// The section of fixed days stands after the absences. What is fixed is no breach; a nurse of a line has to be known, and a line may stand
-/// twice.
+/// The section of fixed days comes after the absences. What is fixed is no breach. A line has to name a known
+/// nurse, and may occur twice.
 pub fn fixed_days_in_the_texts()
     ensures work { breaches_in (requested (codes "0 ABSENCES = 1 Bob Wed FIXED = 1 Bob Tue")
         bob_early_on_tuesday) ≡ Some [] }
@@ -106,7 +107,8 @@ pub fn penalties_of_an_empty_roster()
     ensures { costs_in mini_lines ≡ Some (costs 210 0 180 0 0 80 0) }
 {}
 
-/// The days before the first Monday count for the length of a run and for the place of its days, and have no costs of their own.
+/// The days before the first Monday count for the length of a run and for the position of its days, and have
+/// no costs of their own.
 pub fn penalties_with_runs_that_the_history_began()
     ensures going_on { costs_in (line 27 (codes "Ann 0 0 Early 7 7 0")
         (assigned (codes "Ann Mon Early Nurse"))) ≡ Some
@@ -118,7 +120,7 @@ pub fn penalties_with_runs_that_the_history_began()
         (costs 210 0 180 0 0 80 0) }
 {}
 
-/// A least above its greatest, the totals of the history, and a shift that two off requests name.
+/// A least number above its greatest, the totals of the history, and a shift that two off requests name.
 pub fn penalties_of_contracts_and_off_requests()
     ensures least_above_greatest { costs_in four_and_three_days ≡ Some (costs 30 90 90 0 0 60 0) }
     ensures totals_of_the_history { costs_in (line 27 (codes "Ann 9 3 None 0 0 1")
@@ -128,8 +130,8 @@ pub fn penalties_of_contracts_and_off_requests()
         (costs 180 0 120 10 30 60 0) }
 {}
 
-/// A day with two wishes that aren't met costs once. `Any` is met by each shift, and a wish for a shift by that one alone. An off
-/// request and a wish may both cost on one day.
+/// A day with two wishes that aren't met costs once. `Any` is met by each shift, and a wish for a shift by
+/// that one alone. An off request and a wish may both cost on one day.
 pub fn penalties_of_wishes()
     ensures two_for_a_day_off { costs_in (requested
         (codes "0 SHIFT_ON_REQUESTS = 2 Bob Night Mon Bob Any Mon") mini_lines) ≡ Some
@@ -146,7 +148,8 @@ pub fn penalties_of_wishes()
         ≡ Some (CaseFault.Unknown 36) }
 {}
 
-/// Each day of a nurse that is another than in the roster that is kept costs its points: a shift more, a shift less, or another one.
+/// Each day of a nurse that changes from the given roster costs its points: by a shift more, a shift less, or
+/// another one.
 pub fn penalties_with_a_kept_roster()
     ensures five_days { penalty (keeping mini (early_but 1 ∷ free_week ∷ []) 7)
         (early_but 4 ∷ early_on (4 ∷ 5 ∷ 6 ∷ []) ∷ []) ≡ 55 }
@@ -184,7 +187,7 @@ pub fn totals_of_better_rosters()
     ensures two_skills { total_in heads_wanted ≡ Some 680 }
 {}
 
-/// What single runs owe.
+/// The missing and extra days of single runs.
 pub fn violations_of_runs()
     ensures two_short_and_one_long { run_violations (limits 4 3) 0
         (is_among (0 ∷ 1 ∷ 3 ∷ 4 ∷ 5 ∷ 6 ∷ [])) 7 ≡ 3 }

@@ -1,4 +1,4 @@
--- A case by its parts: what they mean, and the faults of all of them in their order.
+-- A case that is built of its parts: what they mean, and all of its faults in their order.
 use Rattle.std.proofs.Common.{◌≡◌, ◌∙◌, ◌≤◌, ℕ, ap, refl, subst, sym, List, [], ◌++◌, append_assoc, map, nat_lt, Option}
 use Rattle.std.specs.List.{enumerate_from, flat_map}
 use Rattle.roster_bundle.specs.declared.bundle.Bundle.{Bundle}
@@ -20,7 +20,7 @@ use Rattle.roster_instance.specs.Rosters.{Rows}
 use Rattle.roster_instance.specs.Sizes.{state_count}
 use Rattle.roster_instance.proofs.Sections.{IsFirst-after, IsFirst-front, both_none}
 
--- the number of states doesn't depend on the history, nor on the weeks, nor on a roster that is kept
+-- the number of states doesn't depend on the history, on the weeks, or on a roster that is kept
 pub states_alike : (s : Scenario) (past : List (Option Past)) (weeks : List WeekFacts) (base : Rows) (keep n : ℕ) → state_count (case_with s past weeks base keep) n ≡ state_count (case_of s [] []) n
 unfolding state_count
 states_alike s past weeks base keep n = refl
@@ -73,7 +73,7 @@ module _ (source : List ℕ) (b : Bundle) (s : Scenario) (is : IsScenarioOf sour
       let past = past_meant source s.nurses s.shifts b.history.nurses in
       sym (states_alike s past (weeks_in b.week_data) [] 0 n) ∙ ap (λ c. state_count c n) (case_is past (weeks_in b.week_data) refl refl)
 
-  -- what it gives is what the bundle's scenario gives
+  -- the names that the scenario gives are those of the bundle's scenario
   known_same : known_of source s ≡ known_in source b
   known_same = λ i. record {
     source = source;
@@ -92,7 +92,7 @@ module _ (source : List ℕ) (b : Bundle) (s : Scenario) (is : IsScenarioOf sour
   states_same : faults_of_states ≡ flat_map (state_fault (meaning_of source b)) (enumerate_from 0 b.scenario.nurses.items)
   states_same = λ i. flat_map (λ (n : ℕ × Nurse). fault_if (nat_lt most_states (states_are n.0 i)) (TooManyStates n.0 n.1.name)) (enumerate_from 0 b.scenario.nurses.items)
 
-  -- the faults of the scenario and those after it are all
+  -- the faults of the scenario and those after it are all faults of the case
   all_same : scenario_faults source b ++ faults_after source b s ≡ case_faults source b
   unfolding case_faults
   all_same =

@@ -1,4 +1,4 @@
--- Absences and fixed days: for each place a flag, set where a line has this place.
+-- Absences and fixed days: a flag for each nurse and weekday, set if a line has these.
 use Rattle.std.proofs.Common.{◌≡◌, ◌∙◌, ◌+◌, ◌*◌, ◌++◌, ◌∷◌, ◌||◌, ℕ, Bool, true, false, List, [], Some, ap, length, refl, replicate, sym}
 use Rattle.std.proofs.Math.Bool.{or-false}
 use Rattle.std.proofs.Math.ListN.{set}
@@ -7,13 +7,13 @@ use Rattle.std.proofs.lemmas.Bool.{or_right}
 use Rattle.std.proofs.lemmas.List.Folds.{list_any-append}
 use Rattle.roster_bundle.specs.declared.bundle.NurseDay.{NurseDay}
 use Rattle.roster_bundle.specs.Weekdays.{weekday}
-use Rattle.roster_instance.specs.Bundles.{Names, days_meant, has_line, place_of_day}
+use Rattle.roster_instance.specs.Bundles.{Names, days_meant, has_line, index_of_day}
 use Rattle.roster_instance.specs.Names.{found}
 use Rattle.roster_instance.specs.Tables.{is_at}
 use Rattle.roster_instance.proofs.RequestLemmas.{all_alike, element-written}
 use Rattle.roster_instance.proofs.TableLemmas.{is_at-other, is_at-same}
 
--- none yet
+-- without lines no flag is set
 pub no-days : (source : List ℕ) (nurses : Names) → days_meant source nurses [] ≡ replicate (7 * length nurses) false
 unfolding days_meant
 no-days source nurses = sym (all_alike (7 * length nurses) false)
@@ -31,9 +31,9 @@ line-day source nurses earlier marks is a n nurse w day =
     p : ℕ
     p = 7 * n + w
 
-    at : place_of_day source nurses a ≡ Some p
+    at : index_of_day source nurses a ≡ Some p
     at = ap (λ o. option_map (λ k. 7 * k + weekday a.day) o) nurse ∙ ap (λ d. Some (7 * n + d)) (sym day)
 
     push : (q : ℕ) → has_line source nurses (earlier ++ a ∷ []) q ≡ (has_line source nurses earlier q || is_at q (Some p))
-    push q = list_any-append (λ e. is_at q (place_of_day source nurses e)) earlier (a ∷ [])
-        ∙ ap (λ b. has_line source nurses earlier q || b) (or-false (is_at q (place_of_day source nurses a)) ∙ ap (is_at q) at)
+    push q = list_any-append (λ e. is_at q (index_of_day source nurses e)) earlier (a ∷ [])
+        ∙ ap (λ b. has_line source nurses earlier q || b) (or-false (is_at q (index_of_day source nurses a)) ∙ ap (is_at q) at)

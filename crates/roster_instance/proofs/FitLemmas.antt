@@ -1,4 +1,4 @@
--- The roster that the solutions of a bundle say fits the case.
+-- The roster that the solutions of a bundle describe fits the case.
 use Rattle.std.proofs.Common.{◌≡◌, ◌∙◌, ◌+◌, ◌*◌, ◌/◌, ◌%◌, ◌<◌, ◌&&◌, ℕ, zero, suc, Bool, true, refl, ap, ap₂, eq-eqb, lt-ltb, List, [], ◌∷◌, get_or, length, map, Option, Some, None}
 use Rattle.std.specs.Prelude.{option_map, unwrap_or}
 use Rattle.std.specs.List.{enumerate_from, flat_map, list_all, range_with_len}
@@ -10,7 +10,7 @@ use Rattle.roster_bundle.specs.declared.bundle.Solution.{Solution}
 use Rattle.roster_bundle.specs.declared.token.Token.{Token}
 use Rattle.roster_instance.specs.declared.choice.Choice.{Choice}
 use Rattle.roster_instance.specs.declared.choice.Choice.TheVariants.{Off}
-use Rattle.roster_instance.specs.Bundles.{choice_meant, place_of_line, row_meant, rows_of, solution_meant, work_meant}
+use Rattle.roster_instance.specs.Bundles.{choice_meant, index_of_line, row_meant, rows_of, solution_meant, work_meant}
 use Rattle.roster_instance.specs.Meaning.{Meaning, day_count, nurse_count, shift_count, skill_count, week_count}
 use Rattle.roster_instance.specs.Names.{found, name_number}
 use Rattle.roster_instance.specs.Refusals.{Known, known_by, roster_faults, solution_faults}
@@ -18,7 +18,7 @@ use Rattle.roster_instance.specs.Rosters.{fits_case, is_choice_of, is_row_of}
 use Rattle.roster_instance.specs.Tables.{item_at, table_of}
 use Rattle.roster_instance.proofs.NameLemmas.{found-within}
 
--- what each item of a list has
+-- a test that each item's image passes
 all_of_map : {X Y : Type 0} (p : Y → Bool) (f : X → Y) (xs : List X) → ((x : X) → p (f x) ≡ true) → list_all p (map f xs) ≡ true
 all_of_map p f [] each = refl
 all_of_map p f (x ∷ xs) each = ap₂ (λ a b. a && b) (each x) (all_of_map p f xs each)
@@ -51,8 +51,8 @@ module _ (source : List ℕ) (c : Meaning) (some_shifts : 0 < shift_count c) (so
 
   cell_fits : (s : Solution) (k : ℕ) → IsOfCase (get_or (table s) k None)
   unfolding table_of
-  cell_fits s k = get_or_of_map IsOfCase (λ p. option_map (work_meant source c.shift_names c.skill_names) (item_at (place_of_line source c.nurse_names) p s.assignments.items)) None
-      (range_with_len 0 (7 * length c.nurse_names)) k refl (λ p. line_fits (item_at (place_of_line source c.nurse_names) p s.assignments.items))
+  cell_fits s k = get_or_of_map IsOfCase (λ p. option_map (work_meant source c.shift_names c.skill_names) (item_at (index_of_line source c.nurse_names) p s.assignments.items)) None
+      (range_with_len 0 (7 * length c.nurse_names)) k refl (λ p. line_fits (item_at (index_of_line source c.nurse_names) p s.assignments.items))
 
   choice_of_case : (solutions : List Solution) (n d : ℕ) → is_choice_of c (choice_meant (map table solutions) n d) ≡ true
   choice_of_case solutions n d = get_or_of_map (λ cells. IsOfCase (get_or cells (7 * n + d % 7) None)) table [] solutions (d / 7) refl (λ s. cell_fits s (7 * n + d % 7))
@@ -75,7 +75,7 @@ module _ (source : List ℕ) (c : Meaning) (some_shifts : 0 < shift_count c) (so
       ap₂ (λ a b. a && b) (eq-eqb _ (nurse_count c) nurses)
       (all_of_map (is_row_of c) (row_meant tables) (range_with_len 0 (nurse_count c)) (row_of_case b.solutions weeks))
 
--- the rows and the faults by names that are those of the case
+-- rows and faults by names that are equal to those of the case
 module _ (source name : List ℕ) (nurses shifts skills : List (List ℕ)) (c : Meaning) (name_is : name ≡ c.name) (nurses_are : nurses ≡ c.nurse_names) (shifts_are : shifts ≡ c.shift_names)
     (skills_are : skills ≡ c.skill_names) (b : Bundle) where
   pub rows_same : map (row_meant (map (solution_meant source nurses shifts skills) b.solutions)) (range_with_len 0 (nurse_count c)) ≡ rows_of source c b

@@ -1,4 +1,4 @@
--- Flags by number: a flag is on where one of the items has its number.
+-- Flags by number: a flag is set if one of the items has its number.
 use Rattle.std.proofs.Common.{◌≡◌, ◌∙◌, ◌+◌, ◌<◌, ◌||◌, ◌⊎◌, ◌==◌, ℕ, Bool, cond, true, false, sym, ap, arith, List, [], ◌∷◌, ◌++◌, get_or, length, map, Some, inl, inr}
 use Rattle.std.proofs.Math.Bool.{or-false, or-true}
 use Rattle.std.proofs.Math.ListN.{set}
@@ -16,17 +16,17 @@ use Rattle.roster_instance.specs.Refusals.{repeated_fault}
 use Rattle.roster_instance.specs.declared.fault.CaseFault.TheVariants.{Repeated}
 use Rattle.roster_instance.proofs.NameLemmas.{any_same_name, found-has_number}
 
--- ---- how many flags are on
+-- ---- the number of flags that are set
 
 module _ (flags : List Bool) (k : ℕ) (d : Bool) (within : k < length flags) (off : get_or flags k d ≡ false) where
-  -- one more where a flag is turned on
+  -- one more, after a flag is set
   pub count-on : count_by (λ flag. flag) (set flags k true) ≡ count_by (λ flag. flag) flags + 1
   count-on = omega (arith, sum_by-set one flags k true d within, ap one off)
     where
       one : Bool → ℕ
       one flag = cond flag 1 0
 
-  -- one that is off isn't counted
+  -- a flag that isn't set isn't counted
   pub count-room : count_by (λ flag. flag) flags < length flags
   count-room = omega (arith, count-on, count_by-le-length (λ flag. flag) (set flags k true), length-set flags k true)
 
@@ -42,7 +42,7 @@ module _ {A : Type 0} (has : ℕ → A → Bool) (m : ℕ) where
   flags-at : (xs : List A) (n : ℕ) (d : Bool) → n < m → get_or (flags xs) n d ≡ list_any (has n) xs
   flags-at xs n d within = get_or-map-range_with_len (λ n. list_any (has n) xs) 0 m n n d within (omega arith)
 
-  -- the item with this number turns on the flag with this number, if there is one
+  -- the item with this number sets the flag with this number, if there is one
   flags-push : (xs : List A) (x : A) (k : ℕ) → ((n : ℕ) → has n x ≡ (k == n)) → flags (xs ++ x ∷ []) ≡ set (flags xs) k true
   flags-push xs x k number = ext_get_or true (flags (xs ++ x ∷ [])) (set (flags xs) k true)
       (flags-length (xs ++ x ∷ []) ∙ sym (length-set (flags xs) k true ∙ flags-length xs))
@@ -71,10 +71,10 @@ module _ (source : List ℕ) (names : Names) (t : Token) (k : ℕ) (is : found s
   pub numbers_among-push : (ts : List Token) → numbers_among source names (ts ++ t ∷ []) ≡ set (numbers_among source names ts) k true
   numbers_among-push ts = flags-push (has_number source names) 8 ts t k (found-has_number source names t k is)
 
-  -- the flag is on where the name stood there already
+  -- the flag is set if the name came before
   pub numbers_among-at : (ts : List Token) (d : Bool) → k < 8 → get_or (numbers_among source names ts) k d ≡ list_any (same_name source t) ts
   numbers_among-at ts d within = flags-at (has_number source names) 8 ts k d within ∙ sym (any_same_name source names t k is ts)
 
-  -- so this token's name is repeated where the flag is on
+  -- so this token's name is repeated if its flag is set
   pub repeated_by_flag : (flags : List Bool) (ts : List Token) (d : Bool) → k < 8 → flags ≡ numbers_among source names ts → repeated_fault source ts t ≡ fault_if (get_or flags k d) (Repeated t.line)
   repeated_by_flag flags ts d within are = ap (λ b. fault_if b (Repeated t.line)) (sym (ap (λ fs. get_or fs k d) are ∙ numbers_among-at ts d within))

@@ -16,13 +16,13 @@ use Rattle.roster_instance.proofs.TableSteps.{cell-filled, cell-taken}
 
 module _ (source : List ℕ) (nurses shifts : Names) (earlier : List NurseHistory) (past : List (Option Past)) (is : past ≡ past_meant source nurses shifts earlier)
     (h : NurseHistory) (n : ℕ) (nurse : found source nurses h.nurse ≡ Some n) where
-  place : NurseHistory → Option ℕ
-  place e = found source nurses e.nurse
+  index : NurseHistory → Option ℕ
+  index e = found source nurses e.nurse
 
-  -- the nurse of the line has a cell, which is taken where an earlier line names the nurse
+  -- the cell of the line's nurse is filled if an earlier line names the nurse
   line-taken : is_some (get_or past n None) ≡ list_any (λ (e : NurseHistory). same_name source h.nurse e.nurse) earlier
-  unfolding place
-  line-taken = cell-taken place (line_meant source shifts) (length nurses) earlier past is n (found-within source nurses h.nurse n nurse)
+  unfolding index
+  line-taken = cell-taken index (line_meant source shifts) (length nurses) earlier past is n (found-within source nurses h.nurse n nurse)
       ∙ sym (any_same_name_of source nurses h.nurse n nurse (λ (e : NurseHistory). e.nurse) earlier)
 
   line-faults : (b : Bool) → is_some (get_or past n None) ≡ b → history_line_faults source nurses shifts earlier h ≡ fault_if b (HistoryNurses h.nurse.line) ++ unknown_unless source (codes "None") shifts h.last_shift
@@ -38,9 +38,9 @@ module _ (source : List ℕ) (nurses shifts : Names) (earlier : List NurseHistor
   line-new free = line-faults false free
 
   pub line-filled : is_some (get_or past n None) ≡ false → past_meant source nurses shifts (earlier ++ h ∷ []) ≡ set past n (Some (line_meant source shifts h))
-  unfolding place
-  line-filled free = cell-filled place (line_meant source shifts) (length nurses) earlier past is n (found-within source nurses h.nurse n nurse) h nurse free
+  unfolding index
+  line-filled free = cell-filled index (line_meant source shifts) (length nurses) earlier past is n (found-within source nurses h.nurse n nurse) h nurse free
 
--- no line yet
+-- the history without lines
 pub no_lines : (source : List ℕ) (nurses shifts : Names) → past_meant source nurses shifts [] ≡ replicate (length nurses) None
 no_lines source nurses shifts = table-empty (λ (e : NurseHistory). found source nurses e.nurse) (line_meant source shifts) (length nurses)

@@ -11,7 +11,7 @@ use Rattle.roster_instance.specs.declared.choice.Choice.{Choice}
 use Rattle.roster_instance.specs.declared.choice.Choice.TheVariants.{Work}
 use Rattle.roster_instance.specs.declared.fault.CaseFault.{CaseFault}
 use Rattle.roster_instance.specs.declared.fault.CaseFault.TheVariants.{H1}
-use Rattle.roster_instance.specs.Bundles.{place_of_line, work_meant}
+use Rattle.roster_instance.specs.Bundles.{index_of_line, work_meant}
 use Rattle.roster_instance.specs.Faults.{fault_if, first_fault}
 use Rattle.roster_instance.specs.Meaning.{shift_at, skill_at}
 use Rattle.roster_instance.specs.Names.{found, same_name}
@@ -37,7 +37,7 @@ Text = List ℕ
 module _ (source : Text) (nurses shifts skills : List Text) (week : ℕ) (a : Assignment) (n s k w : ℕ)
     (nurse_is : found source nurses a.nurse ≡ Some n) (shift_is : found source shifts a.shift ≡ Some s) (skill_is : found source skills a.skill ≡ Some k)
     (within : n < length nurses) (day_is : w ≡ weekday a.day) (earlier : List Assignment) (lines : List (Option Choice))
-    (built : lines ≡ table_of (place_of_line source nurses) (work_meant source shifts skills) (7 * length nurses) earlier) where
+    (built : lines ≡ table_of (index_of_line source nurses) (work_meant source shifts skills) (7 * length nurses) earlier) where
   weekday_in : w < 7
   weekday_in = omega (arith, day_is, weekday-within a.day)
 
@@ -47,9 +47,9 @@ module _ (source : Text) (nurses shifts skills : List Text) (week : ℕ) (a : As
   any : list_any (λ (e : Assignment). same_name source a.nurse e.nurse && (weekday a.day == weekday e.day)) earlier ≡ is_some (get_or lines (7 * n + w) None)
   any = ap (λ day. list_any (λ (e : Assignment). same_name source a.nurse e.nurse && (day == weekday e.day)) earlier) (sym day_is)
       ∙ any_same_day source nurses a.nurse n w (λ (e : Assignment). e.nurse) (λ (e : Assignment). weekday e.day) earlier nurse_is weekday_in (λ e. weekday-within e.day)
-      ∙ sym (cell-taken (place_of_line source nurses) (work_meant source shifts skills) (7 * length nurses) earlier lines built (7 * n + w) inside)
+      ∙ sym (cell-taken (index_of_line source nurses) (work_meant source shifts skills) (7 * length nurses) earlier lines built (7 * n + w) inside)
 
-  -- the line has a fault where its place is taken, and no other
+  -- the line has a fault if its cell is filled, and no other fault
   line_faults : (b : Bool) → is_some (get_or lines (7 * n + w) None) ≡ b → assignment_faults source nurses shifts skills week earlier a ≡ fault_if b (H1 n (7 * week + w))
   line_faults b is =
       let known = both_none (unknown_fault source nurses a.nurse ++ unknown_fault source shifts a.shift) (unknown_fault source skills a.skill)
@@ -65,10 +65,10 @@ module _ (source : Text) (nurses shifts skills : List Text) (week : ℕ) (a : As
   line_free free = line_faults false free
 
   pub line_put : is_some (get_or lines (7 * n + w) None) ≡ false
-      → set lines (7 * n + w) (Some (Work (shift_at s) (skill_at k))) ≡ table_of (place_of_line source nurses) (work_meant source shifts skills) (7 * length nurses) (earlier ++ a ∷ [])
+      → set lines (7 * n + w) (Some (Work (shift_at s) (skill_at k))) ≡ table_of (index_of_line source nurses) (work_meant source shifts skills) (7 * length nurses) (earlier ++ a ∷ [])
   line_put free =
       let work_is : Work (shift_at s) (skill_at k) ≡ work_meant source shifts skills a =
       ap₂ (λ x y. Work (shift_at x) (skill_at y)) (sym (found-number source shifts a.shift s shift_is)) (sym (found-number source skills a.skill k skill_is)) in
-      let place_is : place_of_line source nurses a ≡ Some (7 * n + w) = ap (option_map (λ m. 7 * m + weekday a.day)) nurse_is ∙ ap (λ day. Some (7 * n + day)) (sym day_is) in
+      let place_is : index_of_line source nurses a ≡ Some (7 * n + w) = ap (option_map (λ m. 7 * m + weekday a.day)) nurse_is ∙ ap (λ day. Some (7 * n + day)) (sym day_is) in
       ap (λ (c : Choice). set lines (7 * n + w) (Some c)) work_is
-      ∙ sym (cell-filled (place_of_line source nurses) (work_meant source shifts skills) (7 * length nurses) earlier lines built (7 * n + w) inside a place_is free)
+      ∙ sym (cell-filled (index_of_line source nurses) (work_meant source shifts skills) (7 * length nurses) earlier lines built (7 * n + w) inside a place_is free)

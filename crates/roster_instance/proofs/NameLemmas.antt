@@ -94,7 +94,7 @@ find_name-within names name = go (find_name names name) refl
     go None is = tt
     go (Some n) is = (position-Some (bytes_eq name) names n [] is).0
 
--- ---- names that a set holds as its keys
+-- ---- names that are the keys of a set
 
 module _ {K : Type 0} (text : K → Text) where
   pub find_name-keys : (ks : List K) (name : Text) → find_name (map text ks) name ≡ position (λ k. bytes_eq name (text k)) ks
@@ -103,14 +103,14 @@ module _ {K : Type 0} (text : K → Text) where
   pub known-keys : (ks : List K) (name : Text) → is_some (find_name (map text ks) name) ≡ list_any (λ k. bytes_eq name (text k)) ks
   known-keys ks name = ap is_some (find_name-keys ks name) ∙ position-some (λ k. bytes_eq name (text k)) ks
 
-  -- one more key, whose name is new
+  -- one more key, with a new name
   pub texts-added : (ks : List K) (k : K) (name : Text) → text k ≡ name → list_any (λ y. bytes_eq name (text y)) ks ≡ false
       → map text (cond (list_any (λ y. bytes_eq (text k) (text y)) ks) ks (ks ++ k ∷ [])) ≡ map text ks ++ name ∷ []
   texts-added ks k name same new =
       ap (λ b. map text (cond b ks (ks ++ k ∷ []))) (ap (λ n. list_any (λ y. bytes_eq n (text y)) ks) same ∙ new)
       ∙ map_push text ks k ∙ ap (λ n. map text ks ++ n ∷ []) same
 
--- ---- names at their places
+-- ---- names by their numbers
 
 pub places-more : (names : List Text) (name : Text) → find_name names name ≡ None → HaveTheirPlaces names → HaveTheirPlaces (names ++ name ∷ [])
 places-more names name none places n below = elim (cases_lt n (length names)) [
@@ -124,15 +124,15 @@ places-more names name none places n below = elim (cases_lt n (length names)) [
       ∙ position-last (bytes_eq name) names name none ((bytes_eq-Decides name name).1 refl) ∙ ap (λ k. Some k) (sym last)
 ]
   where
-    -- a name before the new one is another
+    -- a name before the new one differs from it
     apart : (here : Text) → find_name names here ≡ Some n → (b : Bool) → bytes_eq here name ≡ b → bytes_eq here name ≡ false
     apart here found_is true same = let e : find_name names here ≡ None = ap (find_name names) ((bytes_eq-Decides here name).0 same) ∙ none in absurd (cc)
     apart here found_is false same = same
 
--- whether a number is a name's
+-- whether a number is that of a name
 module _ (names : List Text) (name : Text) (n : ℕ) where
-  pub place-is : HaveTheirPlaces names → n < length names → bytes_eq name (get_or names n []) ≡ is_at n (find_name names name)
-  place-is places within = go (bytes_eq name (get_or names n [])) refl
+  pub index-is : HaveTheirPlaces names → n < length names → bytes_eq name (get_or names n []) ≡ is_at n (find_name names name)
+  index-is places within = go (bytes_eq name (get_or names n [])) refl
     where
       other : (o : Option ℕ) → find_name names name ≡ o → bytes_eq name (get_or names n []) ≡ false → false ≡ is_at n o
       other None found_is differ = refl
@@ -143,7 +143,7 @@ module _ (names : List Text) (name : Text) (n : ℕ) where
           sym (ap (is_at n) (ap (find_name names) ((bytes_eq-Decides name (get_or names n [])).0 same) ∙ places n within) ∙ is_at-same n)
       go false differ = other (find_name names name) refl differ
 
--- ---- names that stand among others
+-- ---- names that may be among others
 
 pub known-any : (source : Text) (earlier : List Token) (t : Token) → is_known source (names_of source earlier) t ≡ list_any (same_name source t) earlier
 known-any source earlier t = known-keys (text_of source) earlier (text_of source t)
@@ -152,7 +152,7 @@ twice : (b : Bool) → b ≡ not (not b)
 twice true = refl
 twice false = refl
 
--- what a set of the names so far answers of one more
+-- what a set of the names so far says of one more
 pub repeated-new : (source : Text) (names : List Text) (earlier : List Token) (t : Token) (text : Text) (new : Bool) → names ≡ names_of source earlier → text ≡ text_of source t
     → new ≡ not (is_some (find_name names text)) → repeated_fault source earlier t ≡ fault_if (not new) (Repeated t.line)
 repeated-new source names earlier t text new names_are text_is is =
@@ -169,7 +169,7 @@ module _ (source : Text) (names : List Text) (t : Token) (n : ℕ) (is : found s
   pub found-text : get_or names n [] ≡ text_of source t
   found-text = sym ((bytes_eq-Decides (text_of source t) (get_or names n [])).0 (position-Some (bytes_eq (text_of source t)) names n [] is).1)
 
-  -- a token has the same name just where it has the same number
+  -- a token has the same name exactly if it has the same number
   pub same_name-by_number : (u : Token) → same_name source t u ≡ is_at n (found source names u)
   same_name-by_number u = go (same_name source t u) refl
     where
@@ -194,7 +194,7 @@ module _ (source : Text) (names : List Text) (t : Token) (n : ℕ) (is : found s
   pub any_same_name : (us : List Token) → list_any (same_name source t) us ≡ list_any (λ u. is_at n (found source names u)) us
   any_same_name us = list_any-alike (same_name source t) (λ u. is_at n (found source names u)) us same_name-by_number
 
-  -- the same of items with a name
+  -- the same for items with a name
   pub any_same_name_of : {A : Type 0} (token : A → Token) (xs : List A) → list_any (λ e. same_name source t (token e)) xs ≡ list_any (λ e. is_at n (found source names (token e))) xs
   any_same_name_of token xs = list_any-alike (λ e. same_name source t (token e)) (λ e. is_at n (found source names (token e))) xs (λ e. same_name-by_number (token e))
 

@@ -1,4 +1,4 @@
--- The last shift that a history says is a shift of the case.
+-- The last shift in the history is one of the case's.
 use Rattle.std.proofs.Common.{◌≡◌, ◌<◌, ℕ, Bool, true, false, IfSome, List, Option, Some, None, codes, cond, get_or, length, subst, sym}
 use Rattle.std.specs.Prelude.{option_map, unwrap_or}
 use Rattle.std.specs.List.{range_with_len}
@@ -15,11 +15,11 @@ use Rattle.roster_instance.specs.Tables.{item_at, table_of}
 use Rattle.roster_instance.proofs.FitLemmas.{get_or_of_map, name_number-within}
 
 module _ (source : List ℕ) (shifts : Names) (some : 0 < length shifts) where
-  -- the last shift, if there is one, is one of these
+  -- the last shift, if there is one, is one of the case's
   abbrev IsKnown : Border → Type 0
   IsKnown border = IfSome (last_shift border) (λ s. s.0 < length shifts)
 
-  -- what a cell says, or that a nurse did nothing
+  -- the past in a cell, or that of a nurse without a line, has a known last shift
   abbrev IsKnownCell : Option Past → Type 0
   IsKnownCell cell = IsKnown (unwrap_or cell no_past).border
 
@@ -37,8 +37,8 @@ module _ (source : List ℕ) (shifts : Names) (some : 0 < length shifts) where
   cell_known : (nurses : Names) (hs : List NurseHistory) (n : ℕ) → IsKnownCell (get_or (past_meant source nurses shifts hs) n None)
   unfolding table_of
   cell_known nurses hs n =
-      let place : NurseHistory → Option ℕ = λ h. found source nurses h.nurse in
-      get_or_of_map IsKnownCell (λ p. option_map (line_meant source shifts) (item_at place p hs)) None (range_with_len 0 (length nurses)) n tt (λ p. line_known (item_at place p hs))
+      let index : NurseHistory → Option ℕ = λ h. found source nurses h.nurse in
+      get_or_of_map IsKnownCell (λ p. option_map (line_meant source shifts) (item_at index p hs)) None (range_with_len 0 (length nurses)) n tt (λ p. line_known (item_at index p hs))
 
 -- the case of a scenario with the past that its history means
 pub past_known : (source : List ℕ) (s : Scenario) (hs : List NurseHistory) (past : List (Option Past)) (weeks : List WeekFacts) → 0 < length s.shifts → past ≡ past_meant source s.nurses s.shifts hs

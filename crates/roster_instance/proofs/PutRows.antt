@@ -1,4 +1,4 @@
--- Rows that are put in one after the other.
+-- Rows that replace those of a roster, one after another.
 use Rattle.std.proofs.Common.{◌≡◌, ◌∙◌, ◌<◌, ◌+◌, ◌++◌, ◌∷◌, ℕ, List, [], ap, ap₂, arith, get_or, length, map, set, sym, take}
 use Rattle.std.proofs.lemmas.List.{get_or-map, length-map, map-set, set-get_or, take_more, take_more_set}
 use Rattle.roster_instance.specs.Rosters.{Row, Rows, row_of, with_row}
@@ -13,16 +13,16 @@ abbrev days : Row → ℕ
 days row = length row
 
 module _ (r other : Rows) (same : map (λ (row : Row). length row) r ≡ map (λ (row : Row). length row) other) where
-  -- rosters of the same days have as many nurses
+  -- rosters with the same days have the same number of nurses
   pub same_nurses : length r ≡ length other
   same_nurses = sym (length-map r days) ∙ ap (λ (ns : List ℕ). length ns) same ∙ length-map other days
 
-  -- and each nurse as many days
+  -- and each nurse has the same number of days
   pub same_days : (n : ℕ) → n < length other → length (row_of other n) ≡ length (row_of r n)
   same_days n inside =
       sym (get_or-map days other n [] 0 inside) ∙ ap (λ (ns : List ℕ). get_or ns n 0) (sym same) ∙ get_or-map days r n [] 0 (omega (arith, same_nurses))
 
--- a row of as many days leaves the days of all as they are
+-- a row with the same number of days leaves the numbers of days unchanged
 pub days-with_row : (r : Rows) (n : ℕ) (row : Row) → n < length r → length row ≡ length (row_of r n) → map (λ (own : Row). length own) (with_row r n row) ≡ map (λ (own : Row). length own) r
 days-with_row r n row within as_many =
     map-set days r n row ∙ ap (λ (k : ℕ). set (map days r) n k) (as_many ∙ sym (get_or-map days r n [] 0 within)) ∙ set-get_or (map days r) n 0

@@ -1,4 +1,5 @@
--- Requests: for each place a flag for the word `Any` and one for each shift, set where a request has this place and says so.
+-- Requests: for each nurse and weekday a flag for the word `Any` and one for each shift, set if a request of
+-- that nurse and weekday says so.
 use Rattle.std.proofs.Common.{◌≡◌, ◌≢◌, ◌∙◌, ◌⊎◌, ◌+◌, ◌*◌, ◌<◌, ◌++◌, ◌∷◌, ◌&&◌, ◌||◌, ◌==◌, ℕ, Bool, true, false, not, List, [], Option, Some, ap, arith, codes, get_or, inl, inr, length, map, replicate, sym}
 use Rattle.std.proofs.Math.Bool.{or-false}
 use Rattle.std.proofs.Math.ListN.{set}
@@ -10,7 +11,7 @@ use Rattle.std.proofs.lemmas.List.Folds.{list_any-append}
 use Rattle.std.proofs.lemmas.List.FromFn.{fill_by_all, get_or-map-range_with_len, length-map-range_with_len}
 use Rattle.roster_bundle.specs.declared.bundle.Request.{Request}
 use Rattle.roster_bundle.specs.Weekdays.{weekday}
-use Rattle.roster_instance.specs.Bundles.{Names, names_shift, place_of_request, requests_at, requests_meant, says_any}
+use Rattle.roster_instance.specs.Bundles.{Names, names_shift, index_of_request, requests_at, requests_meant, says_any}
 use Rattle.roster_instance.specs.declared.rules.DayRequests.{DayRequests}
 use Rattle.roster_instance.specs.CaseParts.{requests_with, with_any, with_shift}
 use Rattle.roster_instance.specs.Meaning.{no_requests}
@@ -19,7 +20,7 @@ use Rattle.roster_instance.specs.Tables.{is_at}
 use Rattle.roster_instance.proofs.NameLemmas.{found-has_number, found-within}
 use Rattle.roster_instance.proofs.TableLemmas.{is_at-other, is_at-same}
 
--- ---- lists made by numbers
+-- ---- lists with an item for each number
 
 module _ {X : Type 0} (n : ℕ) where
   pub all_alike : (x : X) → replicate n x ≡ map (λ _. x) (range_with_len 0 n)
@@ -29,7 +30,7 @@ module _ {X : Type 0} (n : ℕ) where
   list_alike f g d same = fill_by_all g (map f (range_with_len 0 n)) n d (length-map-range_with_len f 0 n)
       (λ i within. get_or-map-range_with_len f 0 n i i d within (omega arith) ∙ same i)
 
-  -- the element at p is written
+  -- item p is replaced
   pub element-written : (f g : ℕ → X) (p : ℕ) (x : X) → x ≡ g p → ((i : ℕ) → i ≢ p → g i ≡ f i) → map g (range_with_len 0 n) ≡ set (map f (range_with_len 0 n)) p x
   element-written f g p x here elsewhere = sym (fill_by_all g (set list p x) n x (length-set list p x ∙ count) (λ i within. at i within (cases_eq i p)))
     where
@@ -47,16 +48,16 @@ module _ {X : Type 0} (n : ℕ) where
       at i within (inr other) =
           get_or-set_other list p i x x other ∙ get_or-map-range_with_len f 0 n i i x within (omega arith) ∙ sym (elsewhere i other)
 
--- ---- a flag for each place
+-- ---- a flag for each index
 
--- one item more, at p, where a flag says whether an item of a place passes a test
-module _ {A : Type 0} (place : A → Option ℕ) (xs : List A) (x : A) (p : ℕ) (at : place x ≡ Some p) (test : A → Bool) where
+-- one more item, with index p; a flag says whether an item with that index passes a test
+module _ {A : Type 0} (index : A → Option ℕ) (xs : List A) (x : A) (p : ℕ) (at : index x ≡ Some p) (test : A → Bool) where
   abbrev flag : List A → ℕ → Bool
-  flag ys q = list_any (λ y. is_at q (place y) && test y) ys
+  flag ys q = list_any (λ y. is_at q (index y) && test y) ys
 
   flag-push : (q : ℕ) → flag (xs ++ x ∷ []) q ≡ (flag xs q || (is_at q (Some p) && test x))
-  flag-push q = list_any-append (λ y. is_at q (place y) && test y) xs (x ∷ [])
-      ∙ ap (λ b. flag xs q || b) (or-false (is_at q (place x) && test x) ∙ ap (λ o. is_at q o && test x) at)
+  flag-push q = list_any-append (λ y. is_at q (index y) && test y) xs (x ∷ [])
+      ∙ ap (λ b. flag xs q || b) (or-false (is_at q (index x) && test x) ∙ ap (λ o. is_at q o && test x) at)
 
   flag-elsewhere : (q : ℕ) → q ≢ p → flag (xs ++ x ∷ []) q ≡ flag xs q
   flag-elsewhere q other = flag-push q ∙ ap (λ b. flag xs q || (b && test x)) (is_at-other q p other) ∙ or-false (flag xs q)
@@ -72,7 +73,7 @@ module _ {A : Type 0} (place : A → Option ℕ) (xs : List A) (x : A) (p : ℕ)
 
 -- ---- requests
 
--- none yet
+-- without requests
 pub none-requested : (source : List ℕ) (nurses shifts : Names) → requests_meant source nurses shifts [] ≡ replicate (7 * length nurses) no_requests
 unfolding requests_meant
 none-requested source nurses shifts =
@@ -84,14 +85,14 @@ module _ (source : List ℕ) (nurses shifts : Names) (earlier : List Request) (r
   abbrev p : ℕ
   p = 7 * n + w
 
-  abbrev place : Request → Option ℕ
-  place = place_of_request source nurses
+  abbrev index : Request → Option ℕ
+  index = index_of_request source nurses
 
-  place-is : place q ≡ Some p
-  place-is = ap (λ o. option_map (λ k. 7 * k + weekday q.day) o) nurse ∙ ap (λ d. Some (7 * n + d)) (sym day)
+  index-is : index q ≡ Some p
+  index-is = ap (λ o. option_map (λ k. 7 * k + weekday q.day) o) nurse ∙ ap (λ d. Some (7 * n + d)) (sym day)
 
-  place-within : p < 7 * length nurses
-  place-within = omega (arith, found-within source nurses q.nurse n nurse)
+  index-within : p < 7 * length nurses
+  index-within = omega (arith, found-within source nurses q.nurse n nurse)
 
   abbrev before : ℕ → DayRequests
   before = requests_at source nurses shifts earlier
@@ -100,33 +101,33 @@ module _ (source : List ℕ) (nurses shifts : Names) (earlier : List Request) (r
   then_at = requests_at source nurses shifts (earlier ++ q ∷ [])
 
   abbrev any_flag : List Request → ℕ → Bool
-  any_flag qs i = list_any (λ y. is_at i (place y) && says_any source y) qs
+  any_flag qs i = list_any (λ y. is_at i (index y) && says_any source y) qs
 
   abbrev shift_flag : List Request → ℕ → ℕ → Bool
-  shift_flag qs i s = list_any (λ y. is_at i (place y) && names_shift source shifts s y) qs
+  shift_flag qs i s = list_any (λ y. is_at i (index y) && names_shift source shifts s y) qs
 
   elsewhere : (i : ℕ) → i ≢ p → then_at i ≡ before i
   elsewhere i other =
-      let any : any_flag (earlier ++ q ∷ []) i ≡ any_flag earlier i = flag-elsewhere place earlier q p place-is (says_any source) i other in
+      let any : any_flag (earlier ++ q ∷ []) i ≡ any_flag earlier i = flag-elsewhere index earlier q p index-is (says_any source) i other in
       let each : map (shift_flag (earlier ++ q ∷ []) i) (range_with_len 0 8) ≡ map (shift_flag earlier i) (range_with_len 0 8) =
-      list_alike 8 (shift_flag (earlier ++ q ∷ []) i) (shift_flag earlier i) false (λ s. flag-elsewhere place earlier q p place-is (names_shift source shifts s) i other) in
+      list_alike 8 (shift_flag (earlier ++ q ∷ []) i) (shift_flag earlier i) false (λ s. flag-elsewhere index earlier q p index-is (names_shift source shifts s) i other) in
       λ j. record { any = any j; shifts = each j }
 
-  -- the requests of the place p become others
+  -- the requests with index p are replaced
   placed : (r : DayRequests → DayRequests) → r (before p) ≡ then_at p → requests_meant source nurses shifts (earlier ++ q ∷ []) ≡ requests_with p r requests
   unfolding requests_meant
   placed r here =
       element-written (7 * length nurses) before then_at p (r (before p)) here elsewhere
-      ∙ ap (λ x. set (map before (range_with_len 0 (7 * length nurses))) p (r x)) (sym (get_or-map-range_with_len before 0 (7 * length nurses) p p no_requests place-within (omega arith)))
+      ∙ ap (λ x. set (map before (range_with_len 0 (7 * length nurses))) p (r x)) (sym (get_or-map-range_with_len before 0 (7 * length nurses) p p no_requests index-within (omega arith)))
       ∙ ap (λ rows. set rows p (r (get_or rows p no_requests))) (sym is)
 
   -- the request says `Any`
   pub any-requested : reads source (codes "Any") q.shift ≡ true → requests_meant source nurses shifts (earlier ++ q ∷ []) ≡ requests_with p with_any requests
   any-requested says =
       placed with_any (
-      let any : any_flag (earlier ++ q ∷ []) p ≡ true = flag-set place earlier q p place-is (says_any source) says in
+      let any : any_flag (earlier ++ q ∷ []) p ≡ true = flag-set index earlier q p index-is (says_any source) says in
       let each : map (shift_flag (earlier ++ q ∷ []) p) (range_with_len 0 8) ≡ map (shift_flag earlier p) (range_with_len 0 8) =
-      list_alike 8 (shift_flag (earlier ++ q ∷ []) p) (shift_flag earlier p) false (λ s. flag-kept place earlier q p place-is (names_shift source shifts s) (ap (λ b. not b && has_number source shifts s q.shift) says)) in
+      list_alike 8 (shift_flag (earlier ++ q ∷ []) p) (shift_flag earlier p) false (λ s. flag-kept index earlier q p index-is (names_shift source shifts s) (ap (λ b. not b && has_number source shifts s q.shift) says)) in
       λ j. record { any = sym any j; shifts = sym each j })
 
   -- the request names a shift
@@ -134,10 +135,10 @@ module _ (source : List ℕ) (nurses shifts : Names) (earlier : List Request) (r
       → requests_meant source nurses shifts (earlier ++ q ∷ []) ≡ requests_with p (with_shift s) requests
   shift-requested otherwise s shift =
       placed (with_shift s) (
-      let any : any_flag (earlier ++ q ∷ []) p ≡ any_flag earlier p = flag-kept place earlier q p place-is (says_any source) otherwise in
+      let any : any_flag (earlier ++ q ∷ []) p ≡ any_flag earlier p = flag-kept index earlier q p index-is (says_any source) otherwise in
       let says : (k : ℕ) → names_shift source shifts k q ≡ (s == k) = λ k. ap (λ b. not b && has_number source shifts k q.shift) otherwise ∙ found-has_number source shifts q.shift s shift k in
       let each : map (shift_flag (earlier ++ q ∷ []) p) (range_with_len 0 8) ≡ set (map (shift_flag earlier p) (range_with_len 0 8)) s true =
       element-written 8 (shift_flag earlier p) (shift_flag (earlier ++ q ∷ []) p) s true
-      (sym (flag-set place earlier q p place-is (names_shift source shifts s) (says s ∙ is_at-same s)))
-      (λ k other. flag-kept place earlier q p place-is (names_shift source shifts k) (says k ∙ is_at-other k s other)) in
+      (sym (flag-set index earlier q p index-is (names_shift source shifts s) (says s ∙ is_at-same s)))
+      (λ k other. flag-kept index earlier q p index-is (names_shift source shifts k) (says k ∙ is_at-other k s other)) in
       λ j. record { any = sym any j; shifts = sym each j })

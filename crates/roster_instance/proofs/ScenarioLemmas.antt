@@ -1,4 +1,4 @@
--- Tables whose items stand at the numbers of their names.
+-- Tables whose items are at the numbers of their names.
 use Rattle.std.proofs.Common.{◌≡◌, ◌∙◌, ℕ, Bool, false, true, sym, ap, List, [], ◌∷◌, ◌++◌, get_or, length, map, Option, Some, None, is_some}
 use Rattle.std.proofs.Math.ListN.{set}
 use Rattle.std.specs.List.{flat_map, list_any}
@@ -23,7 +23,7 @@ module _ {A V : Type 0} (source : List ℕ) (names : Names) (token : A → Token
   cells xs = table_of (λ x. found source names (token x)) says (length names) xs
 
   module _ (earlier : List A) (table : List (Option V)) (are : table ≡ cells earlier) where
-    -- a cell is taken where its name stood there already
+    -- a cell is filled if its name came before
     named-taken : (t : Token) (k : ℕ) → found source names t ≡ Some k → list_any (same_name source t) (map token earlier) ≡ is_some (get_or table k None)
     named-taken t k is =
         any_same_name_map source names t k is token earlier

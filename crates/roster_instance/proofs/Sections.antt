@@ -12,7 +12,7 @@ use Rattle.roster_instance.specs.Faults.{each, each_after, first_fault}
 use Rattle.roster_instance.specs.Names.{names_of}
 use Rattle.roster_instance.specs.declared.fault.CaseFault.{CaseFault}
 
--- ---- what is built of one more item
+-- ---- what is built after one more item
 
 pub built_more : {A B : Type 0} (f : A → B) (earlier : List A) (x : A) (old new : List B) (y : B) → old ≡ map f earlier → new ≡ old ++ y ∷ [] → y ≡ f x → new ≡ map f (earlier ++ x ∷ [])
 built_more f earlier x old new y so_far pushed meant = pushed ∙ ap₂ (λ ys z. ys ++ z ∷ []) so_far meant ∙ sym (map_push f earlier x)
@@ -45,9 +45,9 @@ IsFirst-after xs ys f none first other = first-after xs ys f none (first other)
 pub IsFirst-alone : (xs : List CaseFault) (f : CaseFault) → xs ≡ f ∷ [] → IsFirst xs f
 IsFirst-alone xs f e other = alone-first xs f e
 
--- ---- faults that come through a `?`
+-- ---- faults that are passed on by a `?`
 
--- the fault of a call, as it was
+-- the fault of a call, passed on unchanged
 pub IsFirst-through : {T : Type 0} (r : Result T CaseFault) (f : CaseFault) (fs : List CaseFault) → IsErrAnd r (λ y. y ≡ f) → IsFirst fs f → IfErr r (IsFirst fs)
 IsFirst-through r f fs came first = let p = err_from_is_err_and r came in rw (p.1, p.2) first
 
@@ -67,7 +67,7 @@ module _ {A F : Type 0} (faults : List A → A → List F) where
   pub each-push : (xs : List A) (x : A) → each faults (xs ++ x ∷ []) ≡ each faults xs ++ faults xs x
   each-push xs x = each-append xs (x ∷ []) ∙ ap (λ fs. each faults xs ++ fs) (append-nil (faults xs x))
 
-  -- what stands in front of item i, its own faults and what stands after them
+  -- the faults before item i, its own, and those after it
   pub each-at : (xs : List A) (i : ℕ) (d : A) → i < length xs
       → each faults xs ≡ each faults (take i xs) ++ (faults (take i xs) (get_or xs i d) ++ each_after faults (take i xs ++ get_or xs i d ∷ []) (drop (i + 1) xs))
   each-at xs i d within =
@@ -78,7 +78,7 @@ module _ {A F : Type 0} (faults : List A → A → List F) where
   pub each-more_none : (xs : List A) (x : A) → each faults xs ≡ [] → faults xs x ≡ [] → each faults (xs ++ x ∷ []) ≡ []
   each-more_none xs x so_far none = each-push xs x ∙ both_none (each faults xs) (faults xs x) so_far none
 
-  -- the first fault of an item after items without any
+  -- the first fault of an item, if the items before it have none
   pub each-first : (xs : List A) (i : ℕ) (d : A) (f : F) → i < length xs → each faults (take i xs) ≡ [] → first_fault (faults (take i xs) (get_or xs i d)) ≡ Some f → first_fault (each faults xs) ≡ Some f
   each-first xs i d f within so_far first =
       let own = faults (take i xs) (get_or xs i d) in
@@ -107,7 +107,7 @@ each_after-numbered f earlier (x ∷ xs) =
 pub each-numbered : {A F : Type 0} (f : ℕ × A → List F) (xs : List A) → each (λ earlier x. f (length earlier, x)) xs ≡ flat_map f (enumerate_from 0 xs)
 each-numbered f xs = each_after-numbered f [] xs
 
--- ---- the same by the numbers of the items
+-- ---- the same, by the numbers of the items
 
 module _ {A : Type 0} (f : ℕ × A → List CaseFault) (xs : List A) (i : ℕ) (d x : A) (within : i < length xs) (is : x ≡ get_or xs i d) (none : flat_map f (enumerate_from 0 (take i xs)) ≡ []) where
   at : ◌≡◌ {A = ℕ × A} (i, x) (length (take i xs), get_or xs i d)

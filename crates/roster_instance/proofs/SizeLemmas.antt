@@ -17,7 +17,7 @@ pub greatest_of-push : (ns : List ℕ) (n : ℕ) → greatest_of (ns ++ n ∷ []
 greatest_of-push [] n = omega arith
 greatest_of-push (m ∷ ms) n = ap (max m) (greatest_of-push ms n) ∙ omega arith
 
--- of small numbers the greatest cap is small
+-- the greatest cap of small numbers is small
 pub greatest_cap-small : (runs : List Limits) → ((s : ℕ) → AreSmall (get_or runs s no_limits)) → greatest_of (map cap runs) ≤ most_small
 greatest_cap-small [] small = omega arith
 greatest_cap-small (run ∷ runs) small =
@@ -25,12 +25,12 @@ greatest_cap-small (run ∷ runs) small =
     let others = greatest_cap-small runs (λ s. small (suc s)) in
     omega (arith, own, others)
 
--- a product of ranges of 16 bits, the first of which is small
+-- a product of ranges of 16 bits, the first of which is small, doesn't overflow
 pub product-within : (a b c d e : ℕ) → a ≤ 9 → b ≤ 65536 → c ≤ 65536 → d ≤ 65536 → e ≤ 65536 → a * b * c * d * e ≤ 9 * 65536 * 65536 * 65536 * 65536
 product-within a b c d e a_in b_in c_in d_in e_in =
     mul-le (a * b * c * d) e (9 * 65536 * 65536 * 65536) 65536 (mul-le (a * b * c) d (9 * 65536 * 65536) 65536 (mul-le (a * b) c (9 * 65536) 65536 (mul-le a b 9 65536 a_in b_in) c_in) d_in) e_in
 
--- the number of states by its ranges
+-- the number of states, given the five ranges
 pub states-are : (c : Meaning) (n s r g a w : ℕ) → s ≡ shift_count c → r ≡ max (cap (contract_of c n).working) (cap (contract_of c n).free) → g ≡ greatest_of (map cap c.runs)
     → a ≡ cap (contract_of c n).total → w ≡ (contract_of c n).weekends → (s + 1) * (r + 1) * (g + 1) * (a + 1) * (w + 1) ≡ state_count c n
 unfolding state_count
@@ -41,7 +41,7 @@ pub few_choices : (c : Meaning) → shift_count c ≤ most_shifts → HaveFewSki
 unfolding choice_count
 few_choices c shifts skills n = omega (arith, mul-le (shift_count c) (length (nurse_at c n).skills) most_shifts most_skills shifts (skills n))
 
--- one number more that is within a bound
+-- one more number within the bound
 pub within-more : (f : ℕ → ℕ) (i most : ℕ) → ((n : ℕ) → n < i → f n ≤ most) → f i ≤ most → (n : ℕ) → n < i + 1 → f n ≤ most
 within-more f i most so_far own n below = go (cases_eq n i)
   where

@@ -16,7 +16,7 @@ use Rattle.roster_bundle.specs.declared.bundle.WeekPairs.{WeekPairs}
 use Rattle.roster_instance.specs.declared.rules.Border.TheVariants.{Free, Working}
 use Rattle.roster_instance.specs.declared.rules.Need.{Need}
 use Rattle.roster_instance.specs.declared.rules.Past.{Past}
-use Rattle.roster_instance.specs.Bundles.{Names, border_meant, contract_meant, limits_of, line_meant, meaning_of, need_of, needs_of_week, place_of_need, shift_named, week_meant}
+use Rattle.roster_instance.specs.Bundles.{Names, border_meant, contract_meant, limits_of, line_meant, meaning_of, need_of, needs_of_week, index_of_need, shift_named, week_meant}
 use Rattle.roster_instance.specs.Limits.{most_keep}
 use Rattle.roster_instance.specs.Meaning.{Meaning, WeekFacts, no_contract, no_limits, no_need, no_past, no_week}
 use Rattle.roster_instance.specs.Names.{found, nurse_names, reads, shift_names, skill_names}
@@ -46,18 +46,18 @@ said_of Q P says each None has = tt
 said_of Q P says each (Some x) has = each x has
 
 -- a cell of a table
-cell_of_items : {X Y : Type 0} (Q : X → Type 0) (P : Y → Type 0) (place : X → Option ℕ) (says : X → Y) (n : ℕ) → ((x : X) → Q x → P (says x)) → (xs : List X) → All Q xs → (k : ℕ) → IfSome (get_or (table_of place says n xs) k None) P
+cell_of_items : {X Y : Type 0} (Q : X → Type 0) (P : Y → Type 0) (index : X → Option ℕ) (says : X → Y) (n : ℕ) → ((x : X) → Q x → P (says x)) → (xs : List X) → All Q xs → (k : ℕ) → IfSome (get_or (table_of index says n xs) k None) P
 unfolding table_of
-cell_of_items Q P place says n each xs all k =
-    get_or_of_map (λ cell. IfSome cell P) (λ p. option_map says (item_at place p xs)) None (range_with_len 0 n) k tt
-    (λ p. said_of Q P says each (item_at place p xs) (find_of_items Q _ xs all))
+cell_of_items Q P index says n each xs all k =
+    get_or_of_map (λ cell. IfSome cell P) (λ p. option_map says (item_at index p xs)) None (range_with_len 0 n) k tt
+    (λ p. said_of Q P says each (item_at index p xs) (find_of_items Q _ xs all))
 
--- ---- the numbers of each part
+-- ---- the numbers of each section
 
 limits_small : (p : Pair) → IsSmallPair p → AreSmall (limits_of p)
 limits_small p small = record { least = small.least; greatest = small.greatest }
 
--- no limits are (0,0)
+-- the default limits (0,0) are small
 none_small : AreSmall no_limits
 none_small = record { least = omega arith; greatest = omega arith }
 
@@ -88,7 +88,7 @@ border_small source shifts h small = go (reads source (codes "None") h.last_shif
 line_small : (source : List ℕ) (shifts : Names) (h : NurseHistory) → IsSmallLine h → IsSmallPast (line_meant source shifts h)
 line_small source shifts h small = record { border = border_small source shifts h small; assignments = small.assignments; weekends = small.weekends }
 
--- what a cell says, or that a nurse did nothing
+-- the past in a cell, or that of a nurse without a line
 past_small : (cell : Option Past) → IfSome cell IsSmallPast → IsSmallPast (unwrap_or cell no_past)
 past_small None small = record { border = omega arith; assignments = omega arith; weekends = omega arith }
 past_small (Some past) small = small
@@ -107,18 +107,18 @@ week_small d small (suc (suc (suc (suc (suc zero))))) = need_small d.saturday sm
 week_small d small (suc (suc (suc (suc (suc (suc zero)))))) = need_small d.sunday small.sunday
 week_small d small (suc (suc (suc (suc (suc (suc (suc w))))))) = no_need_small
 
--- the requirements of a week, by place and weekday
+-- the requirements of a week, by slot index and weekday
 abbrev NeedsSmall : WeekFacts → Type 0
-NeedsSmall week = (place w : ℕ) → IsSmallNeed (option_map_or (λ days. get_or days w no_need) (get_or week.needs place None) no_need)
+NeedsSmall week = (index w : ℕ) → IsSmallNeed (option_map_or (λ days. get_or days w no_need) (get_or week.needs index None) no_need)
 
 cell_small : (cell : Option (List Need)) → IfSome cell AreSmallDays → (w : ℕ) → IsSmallNeed (option_map_or (λ days. get_or days w no_need) cell no_need)
 cell_small None small w = no_need_small
 cell_small (Some days) small w = small w
 
 needs_small : (source : List ℕ) (shifts skills nurses : Names) (week : WeekData) → AreSmallNeeds week → NeedsSmall (week_meant source shifts skills nurses week)
-needs_small source shifts skills nurses week small place w =
-    cell_small _ (cell_of_items (λ (q : Requirement). AreSmallPairs q.days) AreSmallDays (place_of_need source shifts skills) (λ (q : Requirement). needs_of_week q.days) 64
-    (λ (q : Requirement). week_small q.days) week.requirements small place) w
+needs_small source shifts skills nurses week small index w =
+    cell_small _ (cell_of_items (λ (q : Requirement). AreSmallPairs q.days) AreSmallDays (index_of_need source shifts skills) (λ (q : Requirement). needs_of_week q.days) 64
+    (λ (q : Requirement). week_small q.days) week.requirements small index) w
 
 -- ---- the case
 
@@ -128,12 +128,12 @@ meaning_small source b small = record {
   runs = get_or_of_items (λ (s : ShiftType). IsSmallPair s.run) AreSmall (λ (s : ShiftType). limits_of s.run) no_limits none_small (λ (s : ShiftType). limits_small s.run) b.scenario.shifts.items small.runs;
   contracts = λ n. get_or_of_items IsSmallContract HasSmallRules contract_meant no_contract no_contract_small contract_small b.scenario.contracts.items small.contracts _;
   past = λ n. past_small _ (cell_of_items IsSmallLine IsSmallPast (λ (h : NurseHistory). found source (nurse_names source b) h.nurse) (line_meant source (shift_names source b)) _ (line_small source (shift_names source b)) b.history.nurses small.history n);
-  needs = λ d s k. get_or_of_items AreSmallNeeds NeedsSmall (week_meant source (shift_names source b) (skill_names source b) (nurse_names source b)) no_week (λ place w. no_need_small)
+  needs = λ d s k. get_or_of_items AreSmallNeeds NeedsSmall (week_meant source (shift_names source b) (skill_names source b) (nurse_names source b)) no_week (λ index w. no_need_small)
       (needs_small source (shift_names source b) (skill_names source b) (nurse_names source b)) b.week_data small.needs _ _ _;
   keep = lit≤ tt;
 }
 
--- whatever roster is kept, at few points
+-- whatever roster is kept, if it is kept at few points
 pub small_with : (c : Meaning) (base : Rows) (keep : ℕ) → keep ≤ most_keep → HasSmallNumbers c → HasSmallNumbers (record c { base = base; keep = keep })
 small_with c base keep few small = record {
   runs = small.runs;

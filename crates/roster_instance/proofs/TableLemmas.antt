@@ -1,4 +1,4 @@
--- Tables of the first items of each place.
+-- Tables that keep the first item of each index.
 use Rattle.std.proofs.Common.{◌≡◌, ◌≢◌, ◌∙◌, ◌+◌, ◌<◌, ◌||◌, ◌&&◌, ◌==◌, ◌*◌, ◌⊎◌, ℕ, Bool, cond, true, false, zero, suc, refl, sym, ap, ap₂, arith, List, [], ◌∷◌, ◌++◌, get_or, length, map, Option, Some, None, inl, inr, ⊎_elim, is_some}
 use Rattle.std.proofs.Math.ListN.{replicate, set}
 use Rattle.std.specs.Prelude.{IfSome, find, option_and_then, option_map}
@@ -11,16 +11,16 @@ use Rattle.std.proofs.lemmas.Bool.{and_right, cases_eq, eq-eqb, ne_eqb}
 use Rattle.std.proofs.lemmas.Bool.Decides.{eqb_tells}
 use Rattle.roster_instance.specs.Tables.{is_at, item_at, table_of}
 
--- ---- places
+-- ---- indices
 
--- a place is at itself alone
+-- an index equals itself
 pub is_at-same : (p : ℕ) → is_at p (Some p) ≡ true
 is_at-same p = ⊎_elim (λ h. h.0) (λ h. absurd (h.1 refl)) (eqb_tells p p)
 
 pub is_at-other : (p q : ℕ) → p ≢ q → is_at p (Some q) ≡ false
 is_at-other p q other = ⊎_elim (λ h. absurd (other (sym h.1))) (λ h. h.0) (eqb_tells q p)
 
--- places of a nurse and weekday
+-- the index of a nurse and weekday
 pub at_day : (a b w : ℕ) (o : Option ℕ) → b < 7 → w < 7 → is_at (7 * a + b) (option_map (λ n. 7 * n + w) o) ≡ (is_at a o && (b == w))
 at_day a b w None b_in w_in = refl
 at_day a b w (Some n) b_in w_in = go (eqb_tells n a) (eqb_tells b w)
@@ -30,7 +30,7 @@ at_day a b w (Some n) b_in w_in = go (eqb_tells n a) (eqb_tells b w)
     go (inl x) (inr y) = ne_eqb (7 * n + w) (7 * a + b) (λ e. y.1 (omega (arith, x.1, e))) ∙ sym (rw (x.0, y.0) refl)
     go (inr x) other = ne_eqb (7 * n + w) (7 * a + b) (λ e. x.1 (omega (arith, e))) ∙ sym (rw x.0 refl)
 
--- places of a shift and skill
+-- the index of a shift and skill
 pub at_skill : (a b : ℕ) (o u : Option ℕ) → b < 8 → IfSome u (λ k. k < 8) → is_at (8 * a + b) (option_and_then (λ s. option_map (λ k. 8 * s + k) u) o) ≡ (is_at a o && is_at b u)
 at_skill a b None u b_in u_in = refl
 at_skill a b (Some s) None b_in u_in = sym (and_right (s == a) false refl)
@@ -67,56 +67,56 @@ map-alike y a (suc n) = ap (λ ys. y ∷ ys) (map-alike y (a + 1) n)
 
 -- ---- tables
 
-module _ {A V : Type 0} (place : A → Option ℕ) (says : A → V) (n : ℕ) where
-  pub table-empty : table_of place says n [] ≡ replicate n None
+module _ {A V : Type 0} (index : A → Option ℕ) (says : A → V) (n : ℕ) where
+  pub table-empty : table_of index says n [] ≡ replicate n None
   unfolding table_of
   table-empty = map-alike None 0 n
 
-  pub table-length : (xs : List A) → length (table_of place says n xs) ≡ n
+  pub table-length : (xs : List A) → length (table_of index says n xs) ≡ n
   unfolding table_of
-  table-length xs = length-map-range_with_len (λ p. option_map says (item_at place p xs)) 0 n
+  table-length xs = length-map-range_with_len (λ p. option_map says (item_at index p xs)) 0 n
 
-  pub table-at : (p : ℕ) (xs : List A) → p < n → get_or (table_of place says n xs) p None ≡ option_map says (item_at place p xs)
+  pub table-at : (p : ℕ) (xs : List A) → p < n → get_or (table_of index says n xs) p None ≡ option_map says (item_at index p xs)
   unfolding table_of
-  table-at p xs within = get_or-map-range_with_len (λ q. option_map says (item_at place q xs)) 0 n p p None within (omega arith)
+  table-at p xs within = get_or-map-range_with_len (λ q. option_map says (item_at index q xs)) 0 n p p None within (omega arith)
 
-  -- a cell is taken where an item has this place
-  pub taken-any : (p : ℕ) (xs : List A) → p < n → is_some (get_or (table_of place says n xs) p None) ≡ list_any (λ e. is_at p (place e)) xs
-  taken-any p xs within = ap is_some (table-at p xs within) ∙ map-some says (item_at place p xs) ∙ find-some (λ e. is_at p (place e)) xs
+  -- a cell is filled if an item has this index
+  pub taken-any : (p : ℕ) (xs : List A) → p < n → is_some (get_or (table_of index says n xs) p None) ≡ list_any (λ e. is_at p (index e)) xs
+  taken-any p xs within = ap is_some (table-at p xs within) ∙ map-some says (item_at index p xs) ∙ find-some (λ e. is_at p (index e)) xs
 
   -- one more item
-  item-push : (q : ℕ) (xs : List A) (x : A) → item_at place q (xs ++ x ∷ []) ≡ option_or (item_at place q xs) (cond (is_at q (place x)) (Some x) None)
-  item-push q xs x = find-append (λ e. is_at q (place e)) xs (x ∷ [])
+  item-push : (q : ℕ) (xs : List A) (x : A) → item_at index q (xs ++ x ∷ []) ≡ option_or (item_at index q xs) (cond (is_at q (index x)) (Some x) None)
+  item-push q xs x = find-append (λ e. is_at q (index e)) xs (x ∷ [])
 
-  item-push_other : (q : ℕ) (xs : List A) (x : A) → is_at q (place x) ≡ false → item_at place q (xs ++ x ∷ []) ≡ item_at place q xs
-  item-push_other q xs x other = item-push q xs x ∙ ap (λ b. option_or (item_at place q xs) (cond b (Some x) None)) other ∙ or_none (item_at place q xs)
+  item-push_other : (q : ℕ) (xs : List A) (x : A) → is_at q (index x) ≡ false → item_at index q (xs ++ x ∷ []) ≡ item_at index q xs
+  item-push_other q xs x other = item-push q xs x ∙ ap (λ b. option_or (item_at index q xs) (cond b (Some x) None)) other ∙ or_none (item_at index q xs)
 
-  item-push_same : (q : ℕ) (xs : List A) (x : A) → is_at q (place x) ≡ true → item_at place q xs ≡ None → item_at place q (xs ++ x ∷ []) ≡ Some x
+  item-push_same : (q : ℕ) (xs : List A) (x : A) → is_at q (index x) ≡ true → item_at index q xs ≡ None → item_at index q (xs ++ x ∷ []) ≡ Some x
   item-push_same q xs x same free = item-push q xs x ∙ ap₂ (λ b o. option_or o (cond b (Some x) None)) same free
 
-  -- one more item, whose cell is still empty; a cell after the last is
-  pub table-put : (p : ℕ) (xs : List A) (x : A) → place x ≡ Some p → get_or (table_of place says n xs) p None ≡ None
-      → table_of place says n (xs ++ x ∷ []) ≡ set (table_of place says n xs) p (Some (says x))
-  table-put p xs x at empty = ext_get_or None (table_of place says n (xs ++ x ∷ [])) (set (table_of place says n xs) p (Some (says x)))
-      (table-length (xs ++ x ∷ []) ∙ sym (length-set (table_of place says n xs) p (Some (says x)) ∙ table-length xs))
+  -- one more item, whose cell is still empty, or past the end
+  pub table-put : (p : ℕ) (xs : List A) (x : A) → index x ≡ Some p → get_or (table_of index says n xs) p None ≡ None
+      → table_of index says n (xs ++ x ∷ []) ≡ set (table_of index says n xs) p (Some (says x))
+  table-put p xs x at empty = ext_get_or None (table_of index says n (xs ++ x ∷ [])) (set (table_of index says n xs) p (Some (says x)))
+      (table-length (xs ++ x ∷ []) ∙ sym (length-set (table_of index says n xs) p (Some (says x)) ∙ table-length xs))
       (λ q inside. cell q (omega (arith, inside, table-length (xs ++ x ∷ []))) (cases_eq q p))
     where
-      here : p < n → item_at place p (xs ++ x ∷ []) ≡ Some x
-      here within = item-push_same p xs x (ap (is_at p) at ∙ is_at-same p) (map-none says (item_at place p xs) (sym (table-at p xs within) ∙ empty))
+      here : p < n → item_at index p (xs ++ x ∷ []) ≡ Some x
+      here within = item-push_same p xs x (ap (is_at p) at ∙ is_at-same p) (map-none says (item_at index p xs) (sym (table-at p xs within) ∙ empty))
 
-      cell : (q : ℕ) → q < n → (q ≡ p) ⊎ (q ≡ p → ⊥) → get_or (table_of place says n (xs ++ x ∷ [])) q None ≡ get_or (set (table_of place says n xs) p (Some (says x))) q None
+      cell : (q : ℕ) → q < n → (q ≡ p) ⊎ (q ≡ p → ⊥) → get_or (table_of index says n (xs ++ x ∷ [])) q None ≡ get_or (set (table_of index says n xs) p (Some (says x))) q None
       cell q inside (inl same) =
           let within : p < n = omega arith in
-          let covered : p < length (table_of place says n xs) = omega (arith, table-length xs) in
-          ap (λ k. get_or (table_of place says n (xs ++ x ∷ [])) k None) same
+          let covered : p < length (table_of index says n xs) = omega (arith, table-length xs) in
+          ap (λ k. get_or (table_of index says n (xs ++ x ∷ [])) k None) same
           ∙ table-at p (xs ++ x ∷ []) within
           ∙ ap (option_map says) (here within)
-          ∙ sym (ap (λ k. get_or (set (table_of place says n xs) p (Some (says x))) k None) same ∙ get_or-set_same (table_of place says n xs) p (Some (says x)) None covered)
+          ∙ sym (ap (λ k. get_or (set (table_of index says n xs) p (Some (says x))) k None) same ∙ get_or-set_same (table_of index says n xs) p (Some (says x)) None covered)
       cell q inside (inr other) =
           table-at q (xs ++ x ∷ []) inside
           ∙ ap (option_map says) (item-push_other q xs x (ap (is_at q) at ∙ is_at-other q p other))
-          ∙ sym (get_or-set_other (table_of place says n xs) p q (Some (says x)) None other ∙ table-at q xs inside)
+          ∙ sym (get_or-set_other (table_of index says n xs) p q (Some (says x)) None other ∙ table-at q xs inside)
 
-  pub table-push : (p : ℕ) (xs : List A) (x : A) → place x ≡ Some p → p < n → get_or (table_of place says n xs) p None ≡ None
-      → table_of place says n (xs ++ x ∷ []) ≡ set (table_of place says n xs) p (Some (says x))
+  pub table-push : (p : ℕ) (xs : List A) (x : A) → index x ≡ Some p → p < n → get_or (table_of index says n xs) p None ≡ None
+      → table_of index says n (xs ++ x ∷ []) ≡ set (table_of index says n xs) p (Some (says x))
   table-push p xs x at _ empty = table-put p xs x at empty

@@ -4,7 +4,7 @@ use Rattle.std.specs.Prelude.{option_and_then, option_map}
 use Rattle.std.proofs.Math.ListN.{set}
 use Rattle.std.specs.List.{list_any}
 use Rattle.roster_bundle.specs.declared.bundle.Requirement.{Requirement}
-use Rattle.roster_instance.specs.Bundles.{Names, needs_meant, needs_of_week, place_of_need}
+use Rattle.roster_instance.specs.Bundles.{Names, needs_meant, needs_of_week, index_of_need}
 use Rattle.roster_instance.specs.Faults.{fault_if, first_fault}
 use Rattle.roster_instance.specs.Names.{found, same_name}
 use Rattle.roster_instance.specs.Refusals.{requirement_faults, unknown_fault}
@@ -15,22 +15,22 @@ use Rattle.roster_instance.proofs.NameLemmas.{any_same_pair, found-no_fault, fou
 use Rattle.roster_instance.proofs.TableLemmas.{table-empty}
 use Rattle.roster_instance.proofs.TableSteps.{cell-filled, cell-taken}
 
--- no requirement yet
+-- without requirements
 pub no_needs : (source : List ℕ) (shifts skills : Names) → needs_meant source shifts skills [] ≡ replicate 64 None
-no_needs source shifts skills = table-empty (place_of_need source shifts skills) (λ (q : Requirement). needs_of_week q.days) 64
+no_needs source shifts skills = table-empty (index_of_need source shifts skills) (λ (q : Requirement). needs_of_week q.days) 64
 
 module _ (source : List ℕ) (shifts skills : Names) (few_shifts : length shifts ≤ 8) (few_skills : length skills ≤ 8)
     (earlier : List Requirement) (lines : List (Option (List Need))) (is : lines ≡ needs_meant source shifts skills earlier)
     (q : Requirement) (s k : ℕ) (shift : found source shifts q.shift ≡ Some s) (skill : found source skills q.skill ≡ Some k) where
-  place-within : 8 * s + k < 64
-  place-within = omega (arith, found-within source shifts q.shift s shift, found-within source skills q.skill k skill)
+  index-within : 8 * s + k < 64
+  index-within = omega (arith, found-within source shifts q.shift s shift, found-within source skills q.skill k skill)
 
-  place-is : place_of_need source shifts skills q ≡ Some (8 * s + k)
-  place-is = ap₂ (λ (o p : Option ℕ). option_and_then (λ a. option_map (λ b. 8 * a + b) p) o) shift skill
+  index-is : index_of_need source shifts skills q ≡ Some (8 * s + k)
+  index-is = ap₂ (λ (o p : Option ℕ). option_and_then (λ a. option_map (λ b. 8 * a + b) p) o) shift skill
 
-  -- the place is taken where an earlier line names the same shift and skill
+  -- the cell is filled if an earlier line names the same shift and skill
   need-taken : is_some (get_or lines (8 * s + k) None) ≡ list_any (λ (e : Requirement). same_name source q.shift e.shift && same_name source q.skill e.skill) earlier
-  need-taken = cell-taken (place_of_need source shifts skills) (λ (e : Requirement). needs_of_week e.days) 64 earlier lines is (8 * s + k) place-within
+  need-taken = cell-taken (index_of_need source shifts skills) (λ (e : Requirement). needs_of_week e.days) 64 earlier lines is (8 * s + k) index-within
       ∙ sym (any_same_pair source shifts skills q.shift q.skill s k (λ (e : Requirement). e.shift) (λ (e : Requirement). e.skill) earlier shift skill few_skills)
 
   need-faults : (b : Bool) → is_some (get_or lines (8 * s + k) None) ≡ b → requirement_faults source shifts skills earlier q ≡ fault_if b (RepeatedRequirement q.skill.line)
@@ -45,9 +45,9 @@ module _ (source : List ℕ) (shifts skills : Names) (few_shifts : length shifts
   pub need-repeated : is_some (get_or lines (8 * s + k) None) ≡ true → first_fault (requirement_faults source shifts skills earlier q) ≡ Some (RepeatedRequirement q.skill.line)
   need-repeated taken = ap first_fault (need-faults true taken)
 
-  -- the line is their first
+  -- the line is the first with this shift and skill
   pub need-new : is_some (get_or lines (8 * s + k) None) ≡ false → requirement_faults source shifts skills earlier q ≡ []
   need-new free = need-faults false free
 
   pub need-filled : is_some (get_or lines (8 * s + k) None) ≡ false → needs_meant source shifts skills (earlier ++ q ∷ []) ≡ set lines (8 * s + k) (Some (needs_of_week q.days))
-  need-filled free = cell-filled (place_of_need source shifts skills) (λ (e : Requirement). needs_of_week e.days) 64 earlier lines is (8 * s + k) place-within q place-is free
+  need-filled free = cell-filled (index_of_need source shifts skills) (λ (e : Requirement). needs_of_week e.days) 64 earlier lines is (8 * s + k) index-within q index-is free

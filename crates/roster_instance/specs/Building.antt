@@ -6,7 +6,7 @@ use Rattle.roster_instance.specs.Bundles.{Names, numbers_among, skill_named}
 use Rattle.roster_instance.specs.Limits.{most_nurses, most_shifts, most_skills, most_weeks}
 use Rattle.roster_instance.specs.Meaning.{NurseFacts, nobody}
 
--- how many weeks, skills, shifts and nurses there may be (our profile)
+-- the numbers of weeks, skills, shifts and nurses are within their limits (our profile)
 pub record HasCounts (weeks skills shifts nurses : ℕ) : Type 0 where
   pub some_weeks : 0 < weeks
   pub few_weeks : weeks ≤ most_weeks
@@ -17,11 +17,12 @@ pub record HasCounts (weeks skills shifts nurses : ℕ) : Type 0 where
   pub some_nurses : 0 < nurses
   pub few_nurses : nurses ≤ most_nurses
 
--- a nurse's skills, as far as the tokens say them: a flag for each skill number, and the skills in their order
-pub record HasSkills (source : List ℕ) (skills : Names) (ts : List Token) (taken : List Bool) (own : List Skill) : Type 0 where
+-- a nurse's skills, as the tokens name them: a flag for each skill number, and the skills in their order
+pub record HasSkills (source : List ℕ) (skills : Names) (ts : List Token) (taken : List Bool)
+    (own : List Skill) : Type 0 where
   pub flags : taken ≡ numbers_among source skills ts
   pub own_are : own ≡ map (skill_named source skills) ts
 
--- none of these nurses has more skills than there may be
+-- no nurse has more skills than the limit
 abbrev pub HaveFewSkills : List NurseFacts → Type 0
 HaveFewSkills nurses = (n : ℕ) → length (slice_index_or nurses n nobody).skills ≤ most_skills

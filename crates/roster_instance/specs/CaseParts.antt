@@ -1,4 +1,4 @@
--- The parts of which a case is built.
+-- The parts from which a case is built.
 use Rattle.std.specs.Prelude.{◌≡◌, ℕ, ◌<◌, ◌≤◌, List, [], ◌++◌, flat_map, length, map, Option, IfSome, slice_index_or, slice_set, true}
 use Rattle.std.specs.List.{enumerate_from}
 use Rattle.roster_bundle.specs.declared.bundle.Bundle.{Bundle}
@@ -17,7 +17,7 @@ use Rattle.roster_instance.specs.Rosters.{Rows}
 use Rattle.roster_instance.specs.Sizes.{state_count}
 use Rattle.roster_instance.specs.Small.{HasSmallNumbers}
 
--- what a scenario is built of
+-- what a scenario is built from
 pub record IsScenarioOf (source : List ℕ) (b : Bundle) (s : Scenario) : Type 0 where
   pub name_is : s.name.items ≡ text_of source b.scenario.name
   pub skills_are : s.skills ≡ skill_names source b
@@ -27,9 +27,10 @@ pub record IsScenarioOf (source : List ℕ) (b : Bundle) (s : Scenario) : Type 0
   pub contracts_are : s.contracts ≡ contract_names source b
   pub rules_are : s.contract_rules.items ≡ map contract_meant b.scenario.contracts.items
   pub nurses_are : s.nurses ≡ nurse_names source b
-  pub facts_are : s.nurse_rules.items ≡ map (nurse_meant source (contract_names source b) (skill_names source b)) b.scenario.nurses.items
+  pub facts_are : s.nurse_rules.items
+      ≡ map (nurse_meant source (contract_names source b) (skill_names source b)) b.scenario.nurses.items
 
--- the names that it gives
+-- the names of the scenario, by which the texts after it are checked
 abbrev pub known_of : List ℕ → Scenario → Known
 known_of source s = record {
   source = source;
@@ -39,19 +40,20 @@ known_of source s = record {
   skills = s.skills;
 }
 
--- what a day's requests name, and `Any` too
+-- the same requests, and one that says `Any`
 abbrev pub with_any : DayRequests → DayRequests
 with_any r = record { any = true; shifts = r.shifts }
 
--- and this shift too
+-- the same requests, and one that names this shift
 abbrev pub with_shift : ℕ → DayRequests → DayRequests
 with_shift shift r = record { any = r.any; shifts = slice_set r.shifts shift true }
 
--- the requests of the place become others
+-- the requests with this index are replaced
 abbrev pub requests_with : ℕ → (DayRequests → DayRequests) → List DayRequests → List DayRequests
-requests_with place change requests = slice_set requests place (change (slice_index_or requests place no_requests))
+requests_with index change requests =
+    slice_set requests index (change (slice_index_or requests index no_requests))
 
--- a case by its parts
+-- the case that is built from these parts
 abbrev pub case_of : Scenario → List (Option Past) → List WeekFacts → Meaning
 case_of s past weeks = record {
   name = s.name.items;
@@ -80,7 +82,7 @@ faults_after source b s =
     ++ flat_map (week_faults (known_of source s)) b.week_data
     ++ flat_map (state_fault (case_of s [] [])) (enumerate_from 0 b.scenario.nurses.items)
 
--- no nurse's search takes too many states
+-- no nurse's search has too many states
 abbrev pub HasFewStates : Meaning → Type 0
 HasFewStates c = (n : ℕ) → n < nurse_count c → state_count c n ≤ most_states
 
@@ -88,9 +90,10 @@ HasFewStates c = (n : ℕ) → n < nurse_count c → state_count c n ≤ most_st
 abbrev pub HasKnownPast : Meaning → Type 0
 HasKnownPast c = (n : ℕ) → IfSome (last_shift (past_of c n).border) (λ s. s.0 < shift_count c)
 
--- what holds of the parts of each case: a week for each that the scenario counts, few states, small numbers, a known
--- past
-pub record AreCaseParts (s : Scenario) (past : List (Option Past)) (weeks : List WeekFacts) (base : Rows) (keep : ℕ) : Type 0 where
+-- what holds of the parts of each case: a week for each that the scenario counts, few states, small numbers,
+-- a known past
+pub record AreCaseParts (s : Scenario) (past : List (Option Past)) (weeks : List WeekFacts) (base : Rows)
+    (keep : ℕ) : Type 0 where
   pub all_weeks : length weeks ≡ s.weeks
   pub few_states : HasFewStates (case_with s past weeks base keep)
   pub small : HasSmallNumbers (case_with s past weeks base keep)

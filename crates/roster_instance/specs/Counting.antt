@@ -11,10 +11,10 @@ abbrev pub all_below : ℕ → (ℕ → Bool) → Bool
 all_below zero p = true
 all_below (suc n) p = all_below n p && p n
 
--- 1 where the test passes, else 0
+-- 1 if the test passes, else 0
 abbrev pub one_if : Bool → ℕ
 one_if b = if b then 1 else 0
 
--- at how many numbers below n the test passes
+-- the count of the numbers below n that pass the test
 abbrev pub count_below : ℕ → (ℕ → Bool) → ℕ
 count_below n p = sum_below n (λ k. one_if (p k))

@@ -2,7 +2,7 @@
 use Rattle.std.specs.Prelude.{ℕ, Bool, true, false, List, [], ◌∷◌, ◌++◌, flat_map, if◌then◌else◌, Option, Some, None}
 use Rattle.std.specs.List.{range_with_len}
 
--- a fault where a test passes
+-- the fault, if the test passes
 abbrev pub fault_if : {F : Type 0} → Bool → F → List F
 fault_if b fault = if b then fault ∷ [] else []
 
@@ -10,16 +10,16 @@ fault_if b fault = if b then fault ∷ [] else []
 abbrev pub below : {F : Type 0} → ℕ → (ℕ → List F) → List F
 below n faults = flat_map faults (range_with_len 0 n)
 
--- the faults of each item of a list, where an item is looked at together with those before it
+-- the faults of each item of a list, which depend on the items before it: those given, and those of the list
 abbrev pub each_after : {A F : Type 0} → (List A → A → List F) → List A → List A → List F
 each_after faults earlier [] = []
 each_after faults earlier (x ∷ xs) = faults earlier x ++ each_after faults (earlier ++ x ∷ []) xs
 
--- the faults of each item, which is looked at together with the items before it
+-- the faults of each item, which depend on the items before it
 abbrev pub each : {A F : Type 0} → (List A → A → List F) → List A → List F
 each faults xs = each_after faults [] xs
 
--- the fault that counts, if there is one
+-- the first fault, which is the one reported
 abbrev pub first_fault : {F : Type 0} → List F → Option F
 first_fault [] = None
 first_fault (f ∷ fs) = Some f

@@ -1,4 +1,5 @@
--- The limits of an instance (our profile; eight skills, eight shifts and the number of states keep the search small).
+-- The limits of an instance (our profile; eight skills, eight shifts and the number of states keep the search
+-- small).
 use Rattle.std.specs.Prelude.{ℕ, ◌*◌}
 pub use Rattle.roster_bundle.specs.Limits.{most_small}
 
@@ -21,10 +22,10 @@ most_contracts = 64
 abbrev pub most_nurses : ℕ
 most_nurses = 400
 
--- the most points for a day that becomes another than in a roster that is kept
+-- the most points for a day that differs from the roster that is kept
 abbrev pub most_keep : ℕ
 most_keep = 100
 
--- the most states of the search for a nurse
+-- the most states in the search for a nurse
 abbrev pub most_states : ℕ
 most_states = 1048576

@@ -1,5 +1,5 @@
--- What the four texts of an instance mean, apart from the roster. Shifts, skills, contracts and nurses are numbered
--- from 0 in the order of the scenario.
+-- What the four texts of an instance mean, apart from the roster. Shifts, skills, contracts and nurses are
+-- numbered from 0 in the order of the scenario.
 use Rattle.std.specs.Prelude.{ℕ, ◌+◌, ◌*◌, ◌/◌, ◌%◌, Bool, false, ◌||◌, ◌==◌, if◌then◌else◌, List, [], length, replicate, Option, Some, None, slice_index_or, unwrap_or}
 use Rattle.std.specs.Option.{option_map_or}
 use Rattle.roster_instance.specs.declared.choice.Choice.{Choice}
@@ -13,14 +13,14 @@ use Rattle.roster_instance.specs.declared.rules.Limits.{Limits}
 use Rattle.roster_instance.specs.declared.rules.Need.{Need}
 use Rattle.roster_instance.specs.declared.rules.Past.{Past}
 
--- a nurse: number of the contract, and skills in the order of the line
+-- a nurse: the number of the contract, and the skills in the order of the line
 pub record NurseFacts : Type 0 where
   pub contract : ℕ
   pub skills : List Skill
 
--- a week: at place 8 s + k the requirements of shift s and skill k from Monday to Sunday, where a line has them; at place
--- 7 n + w what the off requests of nurse n for weekday w name, what the wishes to work name, and whether the nurse is absent,
--- and the day is fixed
+-- a week: with index 8 s + k the requirements of shift s and skill k from Monday to Sunday, if a line has
+-- them; with index 7 n + w what the off requests of nurse n for weekday w name, what the wishes to work name,
+-- whether the nurse is absent, and whether the day is fixed
 pub record WeekFacts : Type 0 where
   pub needs : List (Option (List Need))
   pub off_requests : List DayRequests
@@ -28,9 +28,9 @@ pub record WeekFacts : Type 0 where
   pub absences : List Bool
   pub fixed : List Bool
 
--- `runs` has the days in a row of each shift; `successions`, for each shift that has such a line, which shifts may not
--- follow; `past` what stands in the history of each nurse; `base` a row for each nurse of a roster that is kept, at so many points
--- (`keep`) for each day that becomes another; the texts say neither
+-- `runs` gives the wanted days in a row of each shift; `successions`, for each shift with such a line, the
+-- shifts that may not follow; `past` the history of each nurse; `base` is a roster that is kept, as a row for
+-- each nurse, and `keep` the points for each day that differs from it; the texts say neither
 pub record Meaning : Type 0 where
   pub name : List ℕ
   pub skill_names : List (List ℕ)
@@ -46,7 +46,7 @@ pub record Meaning : Type 0 where
   pub base : List (List Choice)
   pub keep : ℕ
 
--- ---- how many there are
+-- ---- numbers of weeks, days, shifts, skills, contracts and nurses
 
 abbrev pub week_count : Meaning → ℕ
 week_count c = length c.weeks
@@ -72,7 +72,8 @@ shift_at s = record { 0 = s }
 abbrev pub skill_at : ℕ → Skill
 skill_at k = record { 0 = k }
 
--- what stands for a thing that no line says: limits and a need of (0,0), and below a contract of zeros, a nurse without skills, no past, an empty week
+-- the defaults for what no line gives: limits and a need of (0,0), and below a contract of zeros, a nurse
+-- without skills, no past, an empty week
 abbrev pub no_limits : Limits
 no_limits = record { least = 0; greatest = 0 }
 
@@ -80,7 +81,8 @@ abbrev pub no_need : Need
 no_need = record { minimum = 0; optimum = 0 }
 
 abbrev pub no_contract : ContractRules
-no_contract = record { total = no_limits; working = no_limits; free = no_limits; weekends = 0; whole_weekends = false }
+no_contract =
+    record { total = no_limits; working = no_limits; free = no_limits; weekends = 0; whole_weekends = false }
 
 abbrev pub nobody : NurseFacts
 nobody = record { contract = 0; skills = [] }
@@ -94,7 +96,7 @@ no_requests = record { any = false; shifts = replicate 8 false }
 abbrev pub no_week : WeekFacts
 no_week = record { needs = []; off_requests = []; wishes = []; absences = []; fixed = [] }
 
--- how many days in a row a shift is to be worked
+-- the least and the greatest number of days in a row of a shift
 abbrev pub run_of_shift : Meaning → ℕ → Limits
 run_of_shift c s = slice_index_or c.runs s no_limits
 
@@ -118,26 +120,28 @@ past_of c n = unwrap_or (slice_index_or c.past n None) no_past
 abbrev pub week_of : Meaning → ℕ → WeekFacts
 week_of c d = slice_index_or c.weeks (d / 7) no_week
 
--- minimum and optimum of a day, and of a shift and skill of the case; (0,0) where no line has them
+-- the minimum and the optimum of a slot of the case; (0,0) if no line has them
 abbrev pub need : Meaning → ℕ → ℕ → ℕ → Need
-need c d s k = option_map_or (λ week. slice_index_or week (d % 7) no_need) (slice_index_or (week_of c d).needs (8 * s + k) None) no_need
+need c d s k =
+    option_map_or (λ week. slice_index_or week (d % 7) no_need)
+    (slice_index_or (week_of c d).needs (8 * s + k) None) no_need
 
--- how many nurses a day needs of a shift with a skill
+-- the minimum of a slot
 abbrev pub minimum : Meaning → ℕ → ℕ → ℕ → ℕ
 minimum c d s k = (need c d s k).minimum
 
--- how many are best
+-- the optimum of a slot
 abbrev pub optimum : Meaning → ℕ → ℕ → ℕ → ℕ
 optimum c d s k = (need c d s k).optimum
 
--- what the off requests of a nurse for a day name, and what the wishes name
+-- what the off requests of a nurse for a day name; below, what the wishes name
 abbrev pub off_requests_of : Meaning → ℕ → ℕ → DayRequests
 off_requests_of c n d = slice_index_or (week_of c d).off_requests (7 * n + d % 7) no_requests
 
 abbrev pub wishes_of : Meaning → ℕ → ℕ → DayRequests
 wishes_of c n d = slice_index_or (week_of c d).wishes (7 * n + d % 7) no_requests
 
--- an off request names this nurse, day and shift; `Any` names each
+-- an off request names this nurse, day and shift; `Any` names each shift
 abbrev pub has_off_request : Meaning → ℕ → ℕ → ℕ → Bool
 has_off_request c n d s = (off_requests_of c n d).any || slice_index_or (off_requests_of c n d).shifts s false
 
@@ -157,7 +161,8 @@ is_absent c n d = slice_index_or (week_of c d).absences (7 * n + d % 7) false
 abbrev pub is_fixed : Meaning → ℕ → ℕ → Bool
 is_fixed c n d = slice_index_or (week_of c d).fixed (7 * n + d % 7) false
 
--- ---- the history (profile: of a line whose last shift is `None` only the days off count, else only the two other runs)
+-- ---- the history (profile: if the last shift of a line is `None`, only the days off count, else only the
+-- two other runs)
 
 -- the shift of the day before the first Monday, if it was worked
 abbrev pub last_shift : Border → Option Shift
@@ -168,12 +173,14 @@ last_shift (Working s own all) = Some s
 
 -- the first shift forbids the second on the next day, by the lines of successions
 abbrev pub forbids : List (Option (List Bool)) → Option Shift → Option Shift → Bool
-forbids successions (Some s) (Some t) = option_map_or (λ line. slice_index_or line t.0 false) (slice_index_or successions s.0 None) false
+forbids successions (Some s) (Some t) =
+    option_map_or (λ line. slice_index_or line t.0 false) (slice_index_or successions s.0 None) false
 forbids successions (Some s) None = false
 forbids successions None next = false
 
 -- ---- a roster that is kept
 
--- the same case, in which each day of a nurse with another shift than in these rows costs so much more; at no points it is the case itself
+-- the same case, in which each day of a nurse whose shift differs from these rows costs `keep` points more;
+-- at 0 points it is the case itself
 abbrev pub keeping : Meaning → List (List Choice) → ℕ → Meaning
 keeping c rows keep = if keep == 0 then c else record c { base = rows; keep = keep }

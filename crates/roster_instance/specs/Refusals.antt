@@ -1,5 +1,6 @@
--- The refusals of a bundle (our profile): a list of all faults in the order in which they count, which is that of the text,
--- but for too many states, which stand after all others of the case and before those of the solutions.
+-- The refusals of a bundle (our profile): a list of all faults in the order in which they count, which is
+-- that of the text, except that too many states come after all other faults of the case, and before those of
+-- the solutions.
 use Rattle.std.specs.Prelude.{ℕ, ◌+◌, ◌*◌, not, ◌&&◌, ◌||◌, ◌==◌, nat_lt, List, ◌++◌, length, map, flat_map, codes}
 use Rattle.std.specs.List.{enumerate_from, list_any}
 use Rattle.roster_bundle.specs.declared.bundle.Assignment.{Assignment}
@@ -28,7 +29,7 @@ use Rattle.roster_instance.specs.Names.{same_name, reads, skill_names, shift_nam
 use Rattle.roster_instance.specs.Limits.{most_contracts, most_nurses, most_shifts, most_skills, most_states, most_weeks}
 use Rattle.roster_instance.specs.Sizes.{state_count}
 
--- ---- by what the parts of a text are checked: its bytes, and names that stand before them
+-- ---- what a section is checked with: the bytes of the source, and names that came before
 
 -- one list of names
 pub record Among : Type 0 where
@@ -41,7 +42,7 @@ pub record AmongStaff : Type 0 where
   pub contracts : Names
   pub skills : Names
 
--- after the scenario: its name, and the names that it has given
+-- what the scenario gives to the texts after it: its name, and its other names
 pub record Known : Type 0 where
   pub source : List ℕ
   pub name : List ℕ
@@ -54,7 +55,7 @@ pub record KnownInWeek : Type 0 where
   pub known : Known
   pub week : ℕ
 
--- by the scenario of a bundle, and by a case
+-- by the scenario of a bundle; below, by a case
 abbrev pub known_in : List ℕ → Bundle → Known
 known_in source b = record {
   source = source;
@@ -79,21 +80,23 @@ known_by source c = record {
 abbrev pub limit_fault : ℕ → Token → ℕ → List CaseFault
 limit_fault limit t n = fault_if ((n == 0) || nat_lt limit n) (Limit t.line)
 
--- a name stands among these already
+-- the name is among these already
 abbrev pub repeated_fault : List ℕ → List Token → Token → List CaseFault
 repeated_fault source earlier t = fault_if (list_any (same_name source t) earlier) (Repeated t.line)
 
--- it is none of these names
+-- the name is none of these
 abbrev pub unknown_fault : List ℕ → Names → Token → List CaseFault
 unknown_fault source names t = fault_if (not (is_known source names t)) (Unknown t.line)
 
--- it is neither the one word that may stand in the place of a name, nor one of these names
+-- it is neither the one word that may be used instead of a name, nor one of these names
 abbrev pub unknown_unless : List ℕ → List ℕ → Names → Token → List CaseFault
-unknown_unless source word names t = fault_if (not (reads source word t || is_known source names t)) (Unknown t.line)
+unknown_unless source word names t =
+    fault_if (not (reads source word t || is_known source names t)) (Unknown t.line)
 
--- a shift has a name that means something else in requests or in the history
+-- a shift may not have a name that means something else in requests or in the history
 abbrev pub reserved_fault : List ℕ → Token → List CaseFault
-reserved_fault source t = fault_if (reads source (codes "Any") t || reads source (codes "None") t) (Reserved t.line)
+reserved_fault source t =
+    fault_if (reads source (codes "Any") t || reads source (codes "None") t) (Reserved t.line)
 
 -- it is not the scenario's name
 abbrev pub instance_fault : List ℕ → List ℕ → Token → List CaseFault
@@ -102,7 +105,8 @@ instance_fault source name t = fault_if (not (reads source name t)) (OtherInstan
 -- ---- the scenario
 
 abbrev pub shift_faults : List ℕ → List ShiftType → ShiftType → List CaseFault
-shift_faults source earlier s = repeated_fault source (map (λ (e : ShiftType). e.name) earlier) s.name ++ reserved_fault source s.name
+shift_faults source earlier s =
+    repeated_fault source (map (λ (e : ShiftType). e.name) earlier) s.name ++ reserved_fault source s.name
 
 abbrev pub succession_faults : List ℕ → Names → List Succession → Succession → List CaseFault
 succession_faults source shifts earlier l =
@@ -122,19 +126,23 @@ nurse_faults source contracts skills earlier n =
     ++ unknown_fault source contracts n.contract
     ++ each (own_skill_faults source skills) n.skills
 
--- a section that begins with its count
+-- a section with its count
 abbrev pub listed_faults : {A : Type 0} → ℕ → (List A → A → List CaseFault) → Listed A → List CaseFault
-listed_faults limit faults section = limit_fault limit section.count (length section.items) ++ each faults section.items
+listed_faults limit faults section =
+    limit_fault limit section.count (length section.items) ++ each faults section.items
 
--- the shifts with the lines of successions
+-- the shifts, then the lines of successions
 abbrev pub faults_of_shifts : List ℕ → Bundle → List CaseFault
-faults_of_shifts source b = listed_faults most_shifts (shift_faults source) b.scenario.shifts ++ each (succession_faults source (shift_names source b)) b.scenario.successions
+faults_of_shifts source b =
+    listed_faults most_shifts (shift_faults source) b.scenario.shifts
+    ++ each (succession_faults source (shift_names source b)) b.scenario.successions
 
--- the contracts and the nurses
+-- the contracts, then the nurses
 abbrev pub faults_of_staff : List ℕ → Bundle → List CaseFault
 faults_of_staff source b =
     listed_faults most_contracts (contract_faults source) b.scenario.contracts
-    ++ listed_faults most_nurses (nurse_faults source (contract_names source b) (skill_names source b)) b.scenario.nurses
+    ++ listed_faults most_nurses
+    (nurse_faults source (contract_names source b) (skill_names source b)) b.scenario.nurses
 
 -- all refusals of the scenario, in the order of its text
 abbrev pub scenario_faults : List ℕ → Bundle → List CaseFault
@@ -149,7 +157,8 @@ scenario_faults source b =
 abbrev pub history_line_faults : List ℕ → Names → Names → List NurseHistory → NurseHistory → List CaseFault
 history_line_faults source nurses shifts earlier h =
     unknown_fault source nurses h.nurse
-    ++ fault_if (list_any (λ (e : NurseHistory). same_name source h.nurse e.nurse) earlier) (HistoryNurses h.nurse.line)
+    ++ fault_if (list_any (λ (e : NurseHistory). same_name source h.nurse e.nurse) earlier)
+    (HistoryNurses h.nurse.line)
     ++ unknown_unless source (codes "None") shifts h.last_shift
 
 -- all refusals of the history, in the order of its text
@@ -165,12 +174,14 @@ abbrev pub requirement_faults : List ℕ → Names → Names → List Requiremen
 requirement_faults source shifts skills earlier q =
     unknown_fault source shifts q.shift
     ++ unknown_fault source skills q.skill
-    ++ fault_if (list_any (λ (e : Requirement). same_name source q.shift e.shift && same_name source q.skill e.skill) earlier) (RepeatedRequirement q.skill.line)
+    ++ fault_if (list_any (λ (e : Requirement). same_name source q.shift e.shift
+    && same_name source q.skill e.skill) earlier) (RepeatedRequirement q.skill.line)
 
 abbrev pub request_faults : List ℕ → Names → Names → Request → List CaseFault
-request_faults source nurses shifts q = unknown_fault source nurses q.nurse ++ unknown_unless source (codes "Any") shifts q.shift
+request_faults source nurses shifts q =
+    unknown_fault source nurses q.nurse ++ unknown_unless source (codes "Any") shifts q.shift
 
--- of a line of absences or of fixed days
+-- the faults of a line of absences or of fixed days
 abbrev pub day_faults : List ℕ → Names → NurseDay → List CaseFault
 day_faults source nurses a = unknown_fault source nurses a.nurse
 
@@ -184,9 +195,9 @@ week_faults known w =
     ++ flat_map (day_faults known.source known.nurses) (lines_of w.absences)
     ++ flat_map (day_faults known.source known.nurses) (lines_of w.fixed_days)
 
--- ---- the states: for the first nurse whose search would need too many
+-- ---- the states: only the first nurse with too many counts
 
--- the search for a nurse would be too large
+-- the search for a nurse would have too many states
 abbrev pub state_fault : Meaning → ℕ × Nurse → List CaseFault
 state_fault c n = fault_if (nat_lt most_states (state_count c n.0)) (TooManyStates n.0 n.1.name)
 
@@ -200,13 +211,15 @@ case_faults source b =
 
 -- ---- the solutions, by the names of a case
 
--- a second line of a nurse and day is a fault after its last token
-abbrev pub assignment_faults : List ℕ → Names → Names → Names → ℕ → List Assignment → Assignment → List CaseFault
+-- a second line of a nurse and day is a fault, reported after its last token
+abbrev pub assignment_faults : List ℕ → Names → Names → Names → ℕ → List Assignment → Assignment
+    → List CaseFault
 assignment_faults source nurses shifts skills i earlier a =
     unknown_fault source nurses a.nurse
     ++ unknown_fault source shifts a.shift
     ++ unknown_fault source skills a.skill
-    ++ fault_if (list_any (λ (e : Assignment). same_name source a.nurse e.nurse && (weekday a.day == weekday e.day)) earlier)
+    ++ fault_if (list_any
+    (λ (e : Assignment). same_name source a.nurse e.nurse && (weekday a.day == weekday e.day)) earlier)
     (H1 (name_number source nurses a.nurse) (7 * i + weekday a.day))
 
 -- all refusals of a solution, in the order of its text

@@ -1,5 +1,6 @@
--- How the violations of runs grow by one day, where run days of the kind stand in a row right before it: a day of the kind is
--- an extra day where the run is full, and another day ends the run, which owes what it misses.
+-- What one more day adds to the violations of runs, if `run` days of the kind come right before it. A day of
+-- the kind is an extra day if the run has its greatest length. Any other day ends the run, which then owes
+-- the days that are missing to its least length.
 use Rattle.std.specs.Prelude.{ℕ, ◌+◌, ◌-◌, Bool, true, false, nat_lt, if◌then◌else◌}
 use Rattle.roster_instance.specs.declared.rules.Limits.{Limits}
 use Rattle.roster_instance.specs.Counting.{one_if}

@@ -3,7 +3,7 @@ use Rattle.std.specs.Prelude.{ℕ, ◌+◌, ◌*◌, max, length, map, List, [],
 use Rattle.roster_instance.specs.Meaning.{Meaning, shift_count, nurse_at, contract_of}
 use Rattle.roster_instance.specs.declared.rules.Limits.{Limits}
 
--- beyond its cap a run costs the same
+-- a run that is longer than its cap costs the same as one of that length
 abbrev pub cap : Limits → ℕ
 cap l = max l.least l.greatest
 
@@ -11,7 +11,7 @@ abbrev pub greatest_of : List ℕ → ℕ
 greatest_of [] = 0
 greatest_of (n ∷ ns) = max n (greatest_of ns)
 
--- how many states a nurse's search has: the product of the ranges of the five numbers of a summary
+-- the number of states in a nurse's search: the product of the ranges of the five numbers of a summary
 unfoldable pub state_count : Meaning → ℕ → ℕ
 state_count c n =
     (shift_count c + 1)
@@ -20,6 +20,6 @@ state_count c n =
     * (cap (contract_of c n).total + 1)
     * ((contract_of c n).weekends + 1)
 
--- how many choices a nurse has on a day
+-- the number of choices that a nurse has on a day
 unfoldable pub choice_count : Meaning → ℕ → ℕ
 choice_count c n = 1 + shift_count c * length (nurse_at c n).skills

@@ -1,5 +1,5 @@
--- The numbers of an instance are small: each that stands in a pair, a contract or a history line is from 0 to the greatest
--- small number (the format; the range is our profile). The bounds on penalties rest on it.
+-- The numbers of an instance are small: those of pairs, contracts and history lines are from 0 to the
+-- greatest small number (the format; the range is our profile). The bounds on penalties rest on this.
 use Rattle.std.specs.Prelude.{ℕ, ◌≤◌}
 use Rattle.roster_instance.specs.declared.rules.Border.{Border}
 use Rattle.roster_instance.specs.declared.rules.Border.TheVariants.{Free, Working}
@@ -38,7 +38,7 @@ pub record IsSmallPast (p : Past) : Type 0 where
   pub assignments : p.assignments ≤ most_small
   pub weekends : p.weekends ≤ most_small
 
--- all numbers of a case, with that of a roster that is kept
+-- all numbers of a case, including that of a roster that is kept
 pub record HasSmallNumbers (c : Meaning) : Type 0 where
   pub runs : (s : ℕ) → AreSmall (run_of_shift c s)
   pub contracts : (n : ℕ) → HasSmallRules (contract_of c n)
@@ -46,7 +46,7 @@ pub record HasSmallNumbers (c : Meaning) : Type 0 where
   pub needs : (d s k : ℕ) → IsSmallNeed (need c d s k)
   pub keep : c.keep ≤ most_keep
 
--- a case within the limits that keep penalties and labels low
+-- a case within the limits, so that penalties and the labels of a search stay low
 pub record IsSmall (c : Meaning) : Type 0 where
   pub numbers : HasSmallNumbers c
   pub shifts : shift_count c ≤ most_shifts

@@ -30,21 +30,22 @@ use roster_bundle::{Bundle, Nurse};
 use std::alloc::{AllocError, Global};
 use std::marker::Model;
 
-/// The most states that the search for a nurse takes.
+/// The most states in the search for a nurse.
 pub const MAX_STATES: u32 = 1_048_576;
 
-/// What the four texts of an instance say, apart from the roster. Shifts, skills, contracts and nurses are numbered from
-/// 0 in the order of the scenario, and days from 0, the first Monday.
+/// What the four texts of an instance say, apart from the roster. Shifts, skills, contracts and nurses are
+/// numbered from 0 in the order of the scenario, and days from 0, the first Monday.
 pub struct Case {
     scenario: Scenario,
     past: Table<Past>,
     weeks: Vec<Week>,
-    // The roster that is kept, and at how many points.
+    // The roster that is kept, and the points for each day that differs from it.
     base: Roster,
     keep: u16,
 }
 
-// By hand, so that who drops a case has one call to prove and not the drops of all its parts.
+// Written by hand, so that a function that drops a case has one call to prove, not the drops of all its
+// fields.
 impl Drop for Case {
     fn drop(self) {
         let Case {
@@ -69,46 +70,47 @@ impl Model for Case {
 }
 
 impl Case {
-    /// The meaning of the four texts, where nothing in them but the solutions is refused. The bundle is the one that these
-    /// bytes spell; then it has as many weeks as its scenario says, and its numbers are from 0 to 999. The case keeps copies
-    /// of all names.
+    /// The meaning of the four texts, if nothing in them but the solutions is refused. The bundle has to be
+    /// the one that these bytes spell; then it has as many weeks as its scenario says, and its numbers are
+    /// from 0 to 999. The case keeps copies of all names.
     ///
     /// # Errors
     ///
-    /// The first fault in the order of the text: a name that is repeated, unknown or reserved, a part of another instance,
-    /// a count out of limits, a history that doesn't fit, a repeated requirement. After them a nurse with too many states.
-    /// `Memory` where a growth was refused.
+    /// The first fault in the order of the text: a name that is repeated, unknown or reserved, a section of
+    /// another instance, a count out of limits, a history that doesn't fit, a repeated requirement. After
+    /// these a nurse with too many states. `Memory` if an allocation was refused.
     pub fn from_bundle(alloc: Global, bundle: &Bundle, source: &[u8]) -> Result<Case, CaseFault>
         requires weeks { length bundle.now.week_data ≡ bundle.now.scenario.weeks.value }
         requires small { SaysSmallNumbers bundle.now }
 
-        // What is taken has no fault, and means what the texts say.
+        // A case that is returned has no fault, and means what the texts say.
         ensures meant { IfOk result (λ case. case ≡ meaning_of source.now bundle.now) }
         ensures taken { OnOk result (case_faults source.now bundle.now ≡ []) }
         ensures weeks { IfOk result (λ case. week_count case ≡ bundle.now.scenario.weeks.value) }
 
-        // Else the answer is the first fault, memory apart.
+        // Otherwise the result is the first fault, apart from want of memory.
         ensures refused { IfErr result (λ f. f ≢ CaseFault.Memory →
             first_fault (case_faults source.now bundle.now) ≡ Some f) }
     {
         let scenario = Scenario::from_bundle(alloc, bundle, source)?;
-        let told = read_told(alloc, source, bundle, &scenario)?;
+        let later = read_history_and_weeks(alloc, source, bundle, &scenario)?;
         Ok(Case {
             scenario,
-            past: told.past,
-            weeks: told.weeks,
+            past: later.past,
+            weeks: later.weeks,
             base: Roster::empty(alloc),
             keep: 0,
         })
     }
 
-    /// The same case, in which each day of a nurse costs so many points more where its shift, or that it is off, isn't what this
-    /// roster says. At no points it is the case itself; else the case has a copy of the roster, by one growth for the list and one for
-    /// each nurse. It stands in the place of a roster that was kept before.
+    /// The same case, in which each day of a nurse costs `keep` points more if its shift, or that it is off,
+    /// differs from this roster. At 0 points it is the case itself. Otherwise the case has a copy of the
+    /// roster, made by one allocation for the list and one for each nurse, which replaces a roster that was
+    /// kept before.
     ///
     /// # Errors
     ///
-    /// A growth was refused.
+    /// An allocation was refused.
     pub fn keeping(self, alloc: Global, roster: &Roster, keep: u16) -> Result<Case, AllocError>
         requires { keep ≤ most_keep }
         ensures { IfOk result (λ case. case ≡ keeping self roster.now keep) }
@@ -123,7 +125,7 @@ impl Case {
         Ok(case)
     }
 
-    /// The parts that names are looked up in.
+    /// The scenario, in which names are looked up.
     pub(crate) fn scenario(&self) -> &Scenario
         ensures name { result.now.name.items ≡ self.now.name }
         ensures nurses { result.now.nurses ≡ self.now.nurse_names }
@@ -150,8 +152,8 @@ impl Case {
         self.nurses();
     }
 
-    /// A law: no nurse's search has more states than the limit, and no nurse has more choices on a day than to be off and each
-    /// shift with each skill.
+    /// A law: no nurse's search has more states than the limit, and no nurse has more choices on a day than
+    /// to be off and to work each shift with each skill.
     pub fn keeps_sizes(&self)
         ensures states { HasFewStates self.now }
         ensures choices { (n : ℕ) → choice_count self.now n ≤ 1 + most_shifts * most_skills }
@@ -159,9 +161,9 @@ impl Case {
         let _ = &self.scenario;
     }
 
-    // ---- how many there are
+    // ---- sizes
 
-    /// How many weeks, 1 at least.
+    /// The number of weeks, at least 1.
     pub fn weeks(&self) -> u16
         ensures count { result ≡ week_count self.now }
         ensures some { 0 < result }
@@ -170,7 +172,7 @@ impl Case {
         self.weeks.len() as u16
     }
 
-    /// How many days, 7 for each week.
+    /// The number of days, 7 for each week.
     pub fn days(&self) -> u16
         ensures count { result ≡ day_count self.now }
         ensures within { result ≤ most_days }
@@ -178,7 +180,7 @@ impl Case {
         7 * self.weeks()
     }
 
-    /// How many nurses, 1 at least.
+    /// The number of nurses, at least 1.
     pub fn nurses(&self) -> usize
         ensures count { result ≡ nurse_count self.now }
         ensures some { 0 < result }
@@ -187,7 +189,7 @@ impl Case {
         self.scenario.nurses.len()
     }
 
-    /// How many shifts, from 1 to 8.
+    /// The number of shifts, from 1 to 8.
     pub fn shifts(&self) -> u8
         ensures count { result ≡ shift_count self.now }
         ensures some { 0 < result }
@@ -196,7 +198,7 @@ impl Case {
         self.scenario.shifts.len() as u8
     }
 
-    /// How many skills, from 1 to 8.
+    /// The number of skills, from 1 to 8.
     pub fn skills(&self) -> u8
         ensures count { result ≡ skill_count self.now }
         ensures some { 0 < result }
@@ -253,20 +255,20 @@ impl Case {
 
     // ---- what is asked for
 
-    /// Minimum and optimum of a day, and of a shift and skill of the case, each at most 999; (0,0) where no line of the week
-    /// has them.
+    /// The minimum and the optimum of a slot of the case, each at most 999; (0,0) if no line of the week has
+    /// them.
     pub fn need(&self, day: u16, shift: Shift, skill: Skill) -> Need
         ensures limits { result ≡ need self.now day shift.0 skill.0 }
         ensures small { IsSmallNeed result }
     {
-        let place = 8 * shift.0 as usize + skill.0 as usize;
+        let index = 8 * shift.0 as usize + skill.0 as usize;
         match self.weeks.get(day as usize / 7) {
-            Some(week) => week.need(place, day as usize % 7),
+            Some(week) => week.need(index, day as usize % 7),
             None => Need::default(),
         }
     }
 
-    /// How many days in a row a shift is to be worked, at most 999.
+    /// The least and the greatest number of days in a row of a shift, each at most 999.
     pub fn run_of_shift(&self, shift: Shift) -> Limits
         ensures limits { result ≡ run_of_shift self.now shift.0 }
         ensures small { AreSmall result }
@@ -349,7 +351,7 @@ impl Case {
 
     // ---- a roster that is kept
 
-    /// How many points each day costs that becomes another than in the roster that is kept; 0 where none is.
+    /// The points for each day that differs from the roster that is kept; 0 if none is kept.
     pub fn keep(&self) -> u16
         ensures points { result ≡ self.now.keep }
         ensures within { result ≤ most_keep }
@@ -357,7 +359,7 @@ impl Case {
         self.keep
     }
 
-    /// The shift of a nurse on a day in the roster that is kept; none where there is none.
+    /// The shift of a nurse on a day in the roster that is kept; none if no roster is kept.
     pub fn kept_shift(&self, nurse: usize, day: u16) -> Option<Shift>
         ensures { result ≡ shift_of (choice_on (row_of self.now.base nurse) day) }
     {
@@ -376,7 +378,7 @@ impl Case {
         }
     }
 
-    /// What a nurse's contract asks for, in numbers of at most 999.
+    /// What a nurse's contract asks for; each number is at most 999.
     pub fn contract_rules(&self, nurse: usize) -> ContractRules
         ensures rules { result ≡ contract_of self.now nurse }
         ensures small { HasSmallRules result }
@@ -384,7 +386,7 @@ impl Case {
         contract_of(&self.scenario, nurse)
     }
 
-    /// A nurse's skills, in the order of the nurse's line, at most 8.
+    /// A nurse's skills, in the order of the nurse's line; at most 8.
     pub fn skills_of(&self, nurse: usize) -> &[Skill]
         ensures skills { result.now ≡ (nurse_at self.now nurse).skills }
         ensures few { length result.now ≤ most_skills }
@@ -395,7 +397,8 @@ impl Case {
         }
     }
 
-    /// What a nurse did before the first Monday, in numbers of at most 999. A last shift is one of the case's.
+    /// What a nurse did before the first Monday; each number is at most 999. The last shift is one of the
+    /// case's.
     pub fn past(&self, nurse: usize) -> Past
         ensures past { result ≡ past_of self.now nurse }
         ensures small { IsSmallPast result }
@@ -421,7 +424,7 @@ impl Case {
         greatest_cap(&self.scenario.runs)
     }
 
-    /// How many states the search for a nurse has, at most 1,048,576.
+    /// The number of states in the search for a nurse, at most 1,048,576.
     pub fn states(&self, nurse: usize) -> u32
         requires { nurse < nurse_count self.now }
         ensures count { result ≡ state_count self.now nurse }
@@ -430,7 +433,8 @@ impl Case {
         state_count(&self.scenario, nurse) as u32
     }
 
-    /// How many choices a nurse has on a day, at most 65: to be off, and each shift with each of the nurse's skills.
+    /// The number of choices that a nurse has on a day, at most 65: to be off, and each shift with each of
+    /// the nurse's skills.
     #[tactic(auto, unfolding(crate::specs::Sizes::choice_count))]
     pub fn choice_count(&self, nurse: usize) -> u32
         ensures count { result ≡ choice_count self.now nurse }
@@ -441,24 +445,25 @@ impl Case {
     }
 }
 
-/// What stands after the scenario: the past of the nurses, and the weeks.
+/// What the history and the week data say: the past of the nurses, and the weeks.
 #[derive(Drop)]
-struct Told {
+struct HistoryAndWeeks {
     past: Table<Past>,
     weeks: Vec<Week>,
 }
 
-/// The history and the weeks, where nothing in them is refused and no nurse has too many states.
-fn read_told(
+/// Reads the history and the weeks. They are taken if nothing in them is refused and no nurse has too many
+/// states.
+fn read_history_and_weeks(
     alloc: Global,
     source: &[u8],
     bundle: &Bundle,
     scenario: &Scenario,
-) -> Result<Told, CaseFault>
+) -> Result<HistoryAndWeeks, CaseFault>
     requires scenario { IsScenarioOf source.now bundle.now scenario.now }
-    ensures past { IfOk result (λ told. told.past ≡ past_meant source.now scenario.now.nurses
+    ensures past { IfOk result (λ later. later.past ≡ past_meant source.now scenario.now.nurses
         scenario.now.shifts bundle.now.history.nurses) }
-    ensures weeks { IfOk result (λ told. told.weeks.items ≡ map
+    ensures weeks { IfOk result (λ later. later.weeks.items ≡ map
         (week_meant source.now scenario.now.shifts scenario.now.skills scenario.now.nurses)
         bundle.now.week_data) }
     ensures few { OnOk result (HasFewStates (case_of scenario.now [] [])) }
@@ -468,10 +473,10 @@ fn read_told(
     let past = past_of(alloc, source, scenario, &bundle.history)?;
     let weeks = weeks_of(alloc, source, scenario, bundle.week_data.as_slice())?;
     check_states(scenario, bundle.scenario.nurses.items.as_slice())?;
-    Ok(Told { past, weeks })
+    Ok(HistoryAndWeeks { past, weeks })
 }
 
-/// No nurse has too many states.
+/// Checks that no nurse has too many states.
 fn check_states(scenario: &Scenario, nurses: &[Nurse]) -> Result<(), CaseFault>
     requires { length nurses.now ≡ length scenario.now.nurses }
     ensures few { OnOk result (HasFewStates (case_of scenario.now [] [])) }

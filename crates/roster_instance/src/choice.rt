@@ -8,7 +8,7 @@ pub struct Shift(pub u8);
 #[derive(Clone, Copy, Debug, Default, PartialEq, Eq)]
 pub struct Skill(pub u8);
 
-/// A day of a nurse: free, or a shift worked with a skill.
+/// What a nurse does on a day: off, or a shift worked with a skill.
 #[derive(Clone, Copy, Debug, Default, PartialEq, Eq)]
 pub enum Choice {
     #[default]

@@ -7,11 +7,11 @@ use thiserror::Error;
 /// Why the texts of an instance were not taken. A line counts from 1, and a nurse from 0.
 #[derive(Clone, Copy, Debug, Error)]
 pub enum CaseFault {
-    /// A growth was refused.
+    /// An allocation was refused.
     #[error("no memory")]
     Memory,
-    /// A name stands twice among skills, shifts, contracts, nurses or a nurse's skills, or a shift has two lines of
-    /// successions.
+    /// A name is repeated among skills, shifts, contracts, nurses or a nurse's skills, or a shift has two
+    /// lines of successions.
     #[error("line {line}: repeated name")]
     Repeated { line: usize },
     #[error("line {line}: unknown name")]
@@ -19,14 +19,14 @@ pub enum CaseFault {
     /// A shift is named `Any` or `None`.
     #[error("line {line}: reserved name")]
     Reserved { line: usize },
-    /// A part names another scenario.
+    /// A section names another scenario.
     #[error("line {line}: other instance")]
     OtherInstance { line: usize },
     #[error("line {line}: history week is not 0")]
     HistoryWeek { line: usize },
     #[error("line {line}: repeated nurse in history")]
     HistoryNurses { line: usize },
-    /// A shift and skill stand twice in one week.
+    /// A shift and skill have two requirements in one week.
     #[error("line {line}: repeated requirement")]
     RepeatedRequirement { line: usize },
     #[error("line {line}: count out of limits")]

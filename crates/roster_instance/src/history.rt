@@ -22,7 +22,7 @@ struct HistorySection<'a> {
     source: &'a [u8],
     scenario: &'a Scenario,
     past: Table<Past>,
-    // The nurse of the last line.
+    // The nurse of the line before.
     near: usize,
 }
 
@@ -33,7 +33,8 @@ impl<'a> Section<NurseHistory> for HistorySection<'a> {
 
     ghost faults = { λ k. history_line_faults k.source k.nurses k.shifts };
 
-    ghost built = { λ s earlier. s.past ≡ past_meant s.source.now s.scenario.now.nurses s.scenario.now.shifts earlier };
+    ghost built = { λ s earlier.
+        s.past ≡ past_meant s.source.now s.scenario.now.nurses s.scenario.now.shifts earlier };
 
     fn add(&mut self, line: &NurseHistory) -> Result<(), CaseFault> {
         let nurse = self
@@ -56,7 +57,7 @@ impl<'a> Section<NurseHistory> for HistorySection<'a> {
     }
 }
 
-/// The run that stands before the first Monday.
+/// The run before the first Monday.
 fn border_of(source: &[u8], shifts: &Names, line: &NurseHistory) -> Result<Border, CaseFault>
     requires { length shifts.now ≤ most_shifts }
     ensures border { IfOk result (λ border. border ≡ border_meant source.now shifts.now line.now) }
@@ -76,7 +77,7 @@ fn border_of(source: &[u8], shifts: &Names, line: &NurseHistory) -> Result<Borde
     })
 }
 
-/// A part names the scenario that it belongs to.
+/// Checks that a section names the scenario that it belongs to.
 pub(crate) fn check_instance(source: &[u8], name: &[u8], token: Token) -> Result<(), CaseFault>
     ensures none { OnOk result (instance_fault source.now name.now token ≡ []) }
     ensures first { IfErr result (IsFirst (instance_fault source.now name.now token)) }

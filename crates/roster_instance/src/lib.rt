@@ -1,10 +1,12 @@
-//! What the texts of an instance mean: its case, with all that is asked of it, and its rosters.
+//! What the texts of an instance mean: its case, with everything that is asked of it later, and its rosters.
 //!
-//! What a bundle means is defined in `specs/Meaning.antt` and `specs/Bundles.antt`, its faults, in order, in `specs/Refusals.antt`, and
-//! rosters in `specs/Rosters.antt`. `scenario`, `history` and `week` read its parts, one item of a `section` after the other, by their
-//! `names` and into a `table`; `case` puts them together, and answers what is asked later. `Case::from_bundle` promises the meaning, or
-//! the first fault (`fault`); `Roster::from_bundle` (`roster`) the rows. `choice` and `rules` have a day's choices and the numbers of
-//! contracts and histories, `sizes` those of the search for a nurse (`specs/Sizes.antt`).
+//! What a bundle means is defined in `specs/Meaning.antt` and `specs/Bundles.antt`, its faults, in order, in
+//! `specs/Refusals.antt`, and rosters in `specs/Rosters.antt`. `scenario`, `history` and `week` read the
+//! sections of a bundle, one item of a `section` after the other, look names up by their numbers (`names`)
+//! and fill a `table`; `case` puts the results together, and answers later questions. `Case::from_bundle`
+//! promises the meaning, or the first fault (`fault`); `Roster::from_bundle` (`roster`) promises the rows.
+//! `choice` and `rules` have a day's choices and the numbers of contracts and histories, `sizes` those of the
+//! search for a nurse (`specs/Sizes.antt`).
 #![tactic(auto)]
 
 mod case;

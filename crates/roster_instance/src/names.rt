@@ -1,4 +1,4 @@
-//! Names, by their numbers.
+//! Names and their numbers.
 
 ghost use Rattle.std.specs.Prelude.{◌≡◌, ◌<◌, ◌++◌, [], ◌∷◌, List, IfOk, IfErr, IfSome, OnOk, Some, None, is_some, length, map, not, if◌then◌else◌, slice_index_or};
 ghost use Rattle.roster_bundle.specs.Token.{text_of};
@@ -14,15 +14,15 @@ use roster_bundle::Token;
 use std::alloc::{AllocError, Global};
 use std::marker::Model;
 
-/// So few names are compared one after another sooner than a name is hashed.
+/// Up to this number of names it is faster to compare all of them than to hash one.
 const FEW: usize = 8;
 
-/// Different names, numbered from 0 in the order in which they came.
+/// Different names, numbered from 0 in the order in which they were added.
 pub(crate) struct Names {
     names: IndexSet<Vec<u8>>,
 }
 
-// By hand, so that who lets names go has one call to prove.
+// Written by hand, so that a function that drops names has one call to prove.
 impl Drop for Names {
     fn drop(self) {
         let Names { names: _ } = self;
@@ -41,7 +41,7 @@ impl Model for Names {
 }
 
 impl Names {
-    /// No names yet, with room for so many.
+    /// No names yet, with capacity for `count` of them.
     pub(crate) fn with_capacity(alloc: Global, count: usize) -> Result<Names, AllocError>
         ensures { IfOk result (λ names. names ≡ []) }
     {
@@ -50,7 +50,8 @@ impl Names {
         })
     }
 
-    /// Puts a copy of a name at the end. Where the name is there already, nothing changes and the answer is false.
+    /// Adds a copy of a name at the end. If the name is there already, nothing changes and the result is
+    /// false.
     fn add(&mut self, alloc: Global, name: &[u8]) -> Result<bool, AllocError>
         ensures taken { IfOk result (λ taken. taken ≡ not (is_some (find_name self.old name.now))) }
         ensures added { IfOk result (λ taken. self.new
@@ -63,7 +64,7 @@ impl Names {
         Ok(true)
     }
 
-    /// Puts the name of a token at the end, where it isn't there already.
+    /// Adds the name of a token at the end, if it isn't there yet.
     pub(crate) fn add_token(
         &mut self,
         alloc: Global,
@@ -110,7 +111,7 @@ impl Names {
         }
     }
 
-    /// The number of a name. Two numbers are tried before all others: `near`, and the one after it.
+    /// The number of a name. It tries two numbers before all others: `near`, and the one after it.
     fn find_near(&self, name: &[u8], near: usize) -> Option<usize>
         ensures number { result ≡ find_name self.now name.now }
         ensures within { IfSome result (λ number. number < length self.now) }
@@ -146,8 +147,8 @@ impl Names {
         }
     }
 
-    /// The number of a token's name, found sooner where it is `near` or the next one. The lines of one nurse mostly stand
-    /// together, and the nurses in the order of their numbers.
+    /// The number of a token's name, which is found sooner if it is `near` or the next one. The lines of one
+    /// nurse are mostly together, and the nurses in the order of their numbers.
     pub(crate) fn number_near(
         &self,
         source: &[u8],
@@ -166,7 +167,7 @@ impl Names {
     }
 }
 
-/// The number of the first of some names that is this one.
+/// The number of the first of these names that is equal to this one.
 fn number_among(names: &[Vec<u8>], name: &[u8]) -> Option<usize>
     ensures { result ≡ find_name (map (λ own. own.items) names.now) name.now }
 {

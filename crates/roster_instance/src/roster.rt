@@ -4,7 +4,7 @@ ghost use Rattle.std.specs.Prelude.{◌≡◌, true, ◌≢◌, ◌*◌, ◌/◌
 ghost use Rattle.std.specs.List.{enumerate_from, list_all, range_with_len};
 ghost use Rattle.roster_bundle.specs.declared.bundle.Assignment.{Assignment};
 ghost use Rattle.roster_bundle.specs.declared.bundle.Solution.{Solution};
-ghost use Rattle.roster_instance.specs.Bundles.{place_of_line, row_meant, rows_of, solution_meant, work_meant};
+ghost use Rattle.roster_instance.specs.Bundles.{index_of_line, row_meant, rows_of, solution_meant, work_meant};
 ghost use Rattle.roster_instance.specs.Checking.{IsFirst};
 ghost use Rattle.roster_instance.specs.Faults.{first_fault};
 ghost use Rattle.roster_instance.specs.Limits.{most_nurses, most_weeks};
@@ -31,7 +31,8 @@ pub struct Roster {
     rows: Vec<Vec<Choice>>,
 }
 
-// By hand, so that who drops a roster has one call to prove and not the drops of all its rows.
+// Written by hand, so that a function that drops a roster has one call to prove, not the drops of all its
+// rows.
 impl Drop for Roster {
     fn drop(self) {
         let Roster { rows: _ } = self;
@@ -48,13 +49,14 @@ impl Model for Roster {
 }
 
 impl Roster {
-    /// The rows that the solutions of a bundle say, by the names of the case. Solution i is that of week i, whatever number
-    /// it has itself, and without a line a nurse is off. The bundle has as many weeks as the case.
+    /// The rows that the solutions of a bundle describe, by the names of the case. Solution i is that of week
+    /// i, whatever its own number is, and without a line a nurse is off. The bundle has as many weeks as the
+    /// case.
     ///
     /// # Errors
     ///
-    /// The first fault in the order of the text: another instance, an unknown name, or a second line of a nurse for one day.
-    /// `Memory` where a growth was refused.
+    /// The first fault in the order of the text: another instance, an unknown name, or a second line of a
+    /// nurse for one day. `Memory` if an allocation was refused.
     pub fn from_bundle(
         alloc: Global,
         case: &Case,
@@ -63,12 +65,12 @@ impl Roster {
     ) -> Result<Roster, CaseFault>
         requires { length bundle.now.solutions ≡ week_count case.now }
 
-        // What is taken has no fault, fits the case, and says what the solutions say.
+        // A roster that is returned has no fault, fits the case, and says what the solutions say.
         ensures meant { IfOk result (λ roster. roster ≡ rows_of source.now case.now bundle.now) }
         ensures fitting { IfOk result (λ roster. fits_case case.now roster ≡ true) }
         ensures taken { OnOk result (roster_faults source.now case.now bundle.now ≡ []) }
 
-        // Else the answer is the first fault, memory apart.
+        // Otherwise the result is the first fault, apart from want of memory.
         ensures refused { IfErr result (λ f. f ≢ CaseFault.Memory →
             first_fault (roster_faults source.now case.now bundle.now) ≡ Some f) }
     {
@@ -77,7 +79,7 @@ impl Roster {
         Ok(Roster { rows })
     }
 
-    /// One without nurses, which takes no memory.
+    /// A roster without nurses, which takes no memory.
     pub(crate) fn empty(alloc: Global) -> Roster
         ensures { result ≡ [] }
     {
@@ -86,11 +88,11 @@ impl Roster {
         }
     }
 
-    /// A copy, by one growth for the list and one for each nurse.
+    /// A copy, with one allocation for the list and one for each nurse.
     ///
     /// # Errors
     ///
-    /// A growth was refused.
+    /// An allocation was refused.
     pub fn copy(&self, alloc: Global) -> Result<Roster, AllocError>
         ensures { IfOk result (λ copy. copy ≡ self.now) }
     {
@@ -101,7 +103,7 @@ impl Roster {
         Ok(Roster { rows })
     }
 
-    /// The choices of a nurse, one for each day; none for a nurse that the roster doesn't have.
+    /// The choices of a nurse, one for each day; none if the roster doesn't have this nurse.
     pub fn row(&self, nurse: usize) -> &[Choice]
         ensures { result.now ≡ row_of self.now nurse }
     {
@@ -111,7 +113,7 @@ impl Roster {
         }
     }
 
-    /// Puts a row of as many days in the place of a nurse's. Whether it fits the case is not looked at.
+    /// Replaces a nurse's row by one with the same number of days. Whether it fits the case isn't checked.
     pub fn put_row(&mut self, nurse: usize, row: &[Choice])
         requires nurse { nurse < length self.old }
         requires days { length row.now ≡ length (row_of self.old nurse) }
@@ -120,8 +122,8 @@ impl Roster {
         self.rows[nurse].copy_from_slice(row);
     }
 
-    /// Puts the rows of a roster of as many nurses and days in the place of all rows, and takes no memory. Whether they fit the
-    /// case is not looked at.
+    /// Replaces all rows by those of a roster with the same numbers of nurses and days, without taking
+    /// memory. Whether they fit the case isn't checked.
     pub fn put_rows(&mut self, rows: &Roster)
         requires { map (λ row. length row) rows.now ≡ map (λ row. length row) self.old }
         ensures { self.new ≡ rows.now }
@@ -131,14 +133,14 @@ impl Roster {
         }
     }
 
-    /// How many nurses have a row.
+    /// The number of nurses.
     pub fn nurses(&self) -> usize
         ensures { result ≡ length self.now }
     {
         self.rows.len()
     }
 
-    /// How many nurses work a shift with a skill on a day.
+    /// How many nurses work in a slot.
     pub fn cover(&self, day: u16, shift: Shift, skill: Skill) -> usize
         ensures { result ≡ cover self.now day shift.0 skill.0 }
     {
@@ -151,7 +153,7 @@ impl Roster {
         count
     }
 
-    /// Whether there are as many nurses and days as in the case, and its shifts and skills alone.
+    /// Whether the roster has the nurses and the days of the case, and only the case's shifts and skills.
     pub fn fits(&self, case: &Case) -> bool
         ensures { result ≡ fits_case case.now self.now }
     {
@@ -159,7 +161,7 @@ impl Roster {
     }
 }
 
-/// The choice of a row on a day; past the end a day is off.
+/// The choice of a row on a day; off past the end.
 pub fn choice_on(row: &[Choice], day: u16) -> Choice
     ensures { result ≡ choice_on row.now day }
 {
@@ -175,7 +177,7 @@ fn all_fit(case: &Case, rows: &[Vec<Choice>]) -> bool
     rows.iter().all(|row| row_fits(case, row))
 }
 
-/// Whether a row has a choice for each day, and the case's shifts and skills alone.
+/// Whether a row has a choice for each day, and only the case's shifts and skills.
 pub fn row_fits(case: &Case, row: &[Choice]) -> bool
     ensures { result ≡ is_row_of case.now row.now }
 {
@@ -199,14 +201,14 @@ fn choice_fits(case: &Case, choice: Choice) -> bool
 
 // ---- solutions
 
-/// The lines of a solution, at the place of their nurse and weekday.
+/// The lines of a solution, by the index of their nurse and weekday.
 #[derive(Drop)]
 struct LineSection<'a> {
     source: &'a [u8],
     scenario: &'a Scenario,
     week: u16,
     lines: Table<Choice>,
-    // The nurse of the last line.
+    // The nurse of the line before.
     near: usize,
     ghost early: { week < most_weeks },
 }
@@ -216,9 +218,12 @@ impl<'a> Section<Assignment> for LineSection<'a> {
 
     ghost about = { λ s. record { known = known_of s.source.now s.scenario.now; week = s.week } };
 
-    ghost faults = { λ a. assignment_faults a.known.source a.known.nurses a.known.shifts a.known.skills a.week };
+    ghost faults = { λ a.
+        assignment_faults a.known.source a.known.nurses a.known.shifts a.known.skills a.week };
 
-    ghost built = { λ s earlier. s.lines ≡ table_of (place_of_line s.source.now s.scenario.now.nurses) (work_meant s.source.now s.scenario.now.shifts s.scenario.now.skills) (7 * length s.scenario.now.nurses) earlier };
+    ghost built = { λ s earlier. s.lines
+        ≡ table_of (index_of_line s.source.now s.scenario.now.nurses) (work_meant s.source.now
+        s.scenario.now.shifts s.scenario.now.skills) (7 * length s.scenario.now.nurses) earlier };
 
     fn add(&mut self, line: &Assignment) -> Result<(), CaseFault> {
         let nurse = self
@@ -228,15 +233,15 @@ impl<'a> Section<Assignment> for LineSection<'a> {
         let shift = self.scenario.shifts.number(self.source, line.shift)?;
         let skill = self.scenario.skills.number(self.source, line.skill)?;
         let weekday = weekday(line.day);
-        let place = 7 * nurse + weekday;
-        if self.lines.get(place).is_some() {
+        let index = 7 * nurse + weekday;
+        if self.lines.get(index).is_some() {
             return Err(CaseFault::H1 {
                 nurse,
                 day: 7 * self.week + weekday as u16,
             });
         }
         let work = Choice::Work(Shift(shift as u8), Skill(skill as u8));
-        self.lines.set(place, work);
+        self.lines.set(index, work);
         self.near = nurse;
         Ok(())
     }
@@ -269,7 +274,7 @@ fn table_of(
     Ok(section.lines)
 }
 
-/// The tables of all weeks.
+/// The tables of lines of all weeks.
 fn tables_of(
     alloc: Global,
     source: &[u8],

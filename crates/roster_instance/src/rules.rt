@@ -1,4 +1,4 @@
-//! The numbers of an instance.
+//! The numbers of contracts, requirements, requests and histories.
 
 ghost use Rattle.std.specs.Prelude.{◌≡◌, ◌≤◌, false, slice_index_or};
 ghost use Rattle.roster_instance.specs.Sizes.{cap};
@@ -7,7 +7,7 @@ ghost use Rattle.roster_instance.specs.RunLaw.{day_violations};
 use crate::choice::Shift;
 use std::cmp::max;
 
-/// A least and a greatest number, used as written: the least may be above the greatest.
+/// A least and a greatest number, used as written, even if the least is above the greatest.
 #[derive(Clone, Copy, Default)]
 pub struct Limits {
     pub least: u16,
@@ -15,15 +15,16 @@ pub struct Limits {
 }
 
 impl Limits {
-    /// Beyond its cap a run, or a total, costs the same.
+    /// A run, or a total, above its cap costs the same as one at its cap.
     pub fn cap(self) -> u16
         ensures { result ≡ cap self }
     {
         max(self.least, self.greatest)
     }
 
-    /// What a day adds to the missing and the extra days of the runs of a kind, after a run of so many days: one extra day
-    /// where it is of the kind and the run is full, and what the run misses where it ends.
+    /// What a day adds to the missing and the extra days of the runs of a kind, after a run of `run` days:
+    /// one extra day if it is of the kind and the run has its greatest length, or the missing days of the run
+    /// if the day ends it.
     pub fn day_violations(self, run: u32, of_kind: bool) -> u32
         ensures violations { result ≡ day_violations self run of_kind }
         ensures within { result ≤ 65536 }
@@ -38,15 +39,15 @@ impl Limits {
     }
 }
 
-/// How many nurses of a shift and skill a day needs at least, and at best, used as written: the minimum may be above the optimum.
+/// The minimum and the optimum of a slot, used as written, even if the minimum is above the optimum.
 #[derive(Clone, Copy, Default)]
 pub struct Need {
     pub minimum: u16,
     pub optimum: u16,
 }
 
-/// What a contract asks for: assignments, working days in a row, days off in a row, the greatest number of worked
-/// weekends, and whether a weekend is to be worked whole or not at all.
+/// What a contract asks for: the numbers of assignments, of working days in a row and of days off in a row,
+/// the greatest number of worked weekends, and whether a weekend is to be worked whole or not at all.
 #[derive(Clone, Copy, Default)]
 pub struct ContractRules {
     pub total: Limits,
@@ -56,7 +57,8 @@ pub struct ContractRules {
     pub whole_weekends: bool,
 }
 
-/// What the requests of a nurse for a day name: whether one says `Any`, and for each shift whether one names it.
+/// What the requests of a nurse for a day name: whether one says `Any`, and for each shift whether one names
+/// it.
 #[derive(Clone, Copy, Default)]
 pub struct DayRequests {
     pub any: bool,
@@ -64,7 +66,7 @@ pub struct DayRequests {
 }
 
 impl DayRequests {
-    /// Whether one of them names a shift by its own name.
+    /// Whether a request names this shift itself.
     pub fn names(&self, shift: Shift) -> bool
         ensures { result ≡ slice_index_or self.now.shifts shift.0 false }
     {
@@ -75,7 +77,7 @@ impl DayRequests {
     }
 }
 
-/// The run that stands before the first Monday.
+/// The run right before the first Monday.
 #[derive(Clone, Copy)]
 pub enum Border {
     /// That many days off.
@@ -88,7 +90,7 @@ pub enum Border {
     },
 }
 
-/// What a nurse did before the first Monday: the run that stands there, the assignments and the worked weekends.
+/// What a nurse did before the first Monday: the last run, the assignments and the worked weekends.
 #[derive(Clone, Copy)]
 pub struct Past {
     pub border: Border,

@@ -54,7 +54,8 @@ pub(crate) struct Scenario {
     ghost few_skills: { HaveFewSkills nurse_rules.items },
 }
 
-// By hand, so that who drops a scenario has one call to prove and not the drops of all its parts.
+// Written by hand, so that a function that drops a scenario has one call to prove, not the drops of all its
+// fields.
 impl Drop for Scenario {
     fn drop(self) {
         let Scenario {
@@ -175,7 +176,7 @@ fn read_staff(
     })
 }
 
-/// A count is from 1 to its limit.
+/// Checks that a count is from 1 to its limit.
 fn check_count(limit: usize, token: Token, count: usize) -> Result<(), CaseFault>
     ensures within { OnOk result ((0 < count) × (count ≤ limit)) }
     ensures none { OnOk result (limit_fault limit token count ≡ []) }
@@ -254,7 +255,9 @@ impl<'a> Section<ShiftType> for ShiftSection<'a> {
 
     ghost faults = { shift_faults };
 
-    ghost built = { λ s earlier. (s.names ≡ names_of s.source.now (map (λ (e : ShiftType). e.name) earlier)) × (s.runs.items ≡ map (λ (e : ShiftType). limits_of e.run) earlier) };
+    ghost built = { λ s earlier.
+        (s.names ≡ names_of s.source.now (map (λ (e : ShiftType). e.name) earlier))
+        × (s.runs.items ≡ map (λ (e : ShiftType). limits_of e.run) earlier) };
 
     fn add(&mut self, shift: &ShiftType) -> Result<(), CaseFault> {
         self.names.add_token(self.alloc, self.source, shift.name)?;
@@ -264,7 +267,7 @@ impl<'a> Section<ShiftType> for ShiftSection<'a> {
     }
 }
 
-/// A shift is named neither as all shifts nor as none.
+/// Checks that a shift isn't named with the word for all shifts or for none.
 fn check_not_reserved(source: &[u8], token: Token) -> Result<(), CaseFault>
     ensures none { OnOk result (reserved_fault source.now token ≡ []) }
     ensures first { IfErr result (IsFirst (reserved_fault source.now token)) }
@@ -413,7 +416,8 @@ impl<'a> Section<Contract> for ContractSection<'a> {
 
     ghost faults = { contract_faults };
 
-    ghost built = { λ s earlier. (s.names ≡ names_of s.source.now (map (λ (e : Contract). e.name) earlier)) × (s.rules.items ≡ map contract_meant earlier) };
+    ghost built = { λ s earlier. (s.names ≡ names_of s.source.now
+        (map (λ (e : Contract). e.name) earlier)) × (s.rules.items ≡ map contract_meant earlier) };
 
     fn add(&mut self, contract: &Contract) -> Result<(), CaseFault> {
         self.names
@@ -492,7 +496,7 @@ impl NurseRules {
     }
 }
 
-/// A nurse's skills, and which of all skills are among them.
+/// A nurse's skills, and for each skill whether it is among them.
 #[derive(Drop)]
 struct OwnSkillSection<'a> {
     source: &'a [u8],
@@ -560,11 +564,14 @@ struct NurseSection<'a> {
 impl<'a> Section<Nurse> for NurseSection<'a> {
     ghost About = { AmongStaff };
 
-    ghost about = { λ s. record { source = s.source.now; contracts = s.contracts.now; skills = s.skills.now } };
+    ghost about = { λ s. record
+        { source = s.source.now; contracts = s.contracts.now; skills = s.skills.now } };
 
     ghost faults = { λ a. nurse_faults a.source a.contracts a.skills };
 
-    ghost built = { λ s earlier. (s.names ≡ names_of s.source.now (map (λ (e : Nurse). e.name) earlier)) × (s.rules.items ≡ map (nurse_meant s.source.now s.contracts.now s.skills.now) earlier) };
+    ghost built = { λ s earlier.
+        (s.names ≡ names_of s.source.now (map (λ (e : Nurse). e.name) earlier))
+        × (s.rules.items ≡ map (nurse_meant s.source.now s.contracts.now s.skills.now) earlier) };
 
     fn add(&mut self, nurse: &Nurse) -> Result<(), CaseFault> {
         self.names.add_token(self.alloc, self.source, nurse.name)?;

@@ -6,20 +6,20 @@ ghost use Rattle.roster_instance.specs.Faults.{each};
 
 use crate::fault::CaseFault;
 
-/// What is built of the items of a section, each looked at together with those before it.
+/// What is built from the items of a section, each checked together with those before it.
 pub(crate) trait Section<T> {
     ghost use Rattle.std.specs.Prelude.{List};
     ghost use Rattle.roster_instance.specs.declared.fault.CaseFault.{CaseFault};
 
-    /// What the items are looked up in: the source, and names. It stays as it is.
+    /// What the items are checked with: the source, and names. It doesn't change.
     ghost About: { Type 0 };
 
     ghost about: { Self → About };
 
-    /// What is wrong with an item after these.
+    /// The faults of an item after these.
     ghost faults: { About → List T → T → List CaseFault };
 
-    /// It is built of these items.
+    /// What is built is that of these items.
     ghost built: { Self → List T → Type 0 };
 
     fn add(&mut self, item: &T) -> Result<(), CaseFault>

@@ -9,8 +9,8 @@ use crate::rules::{ContractRules, Limits};
 use crate::scenario::Scenario;
 use std::cmp::max;
 
-/// The product of the ranges of what the search keeps of a nurse: the last shift, the run of working days or days off, the
-/// run of the shift, the assignments and the worked weekends.
+/// The product of the ranges of what the search keeps of a nurse: the last shift, the run of working days or
+/// days off, the run of the shift, the assignments and the worked weekends.
 pub(crate) fn state_count(scenario: &Scenario, nurse: usize) -> u128
     ensures { result ≡ state_count (case_of scenario.now [] []) nurse }
 {
@@ -43,7 +43,7 @@ fn greater(a: u16, b: u16) -> u16
     max(a, b)
 }
 
-/// The greatest cap, 0 where there is none.
+/// The greatest cap, 0 if there is none.
 pub(crate) fn greatest_cap(runs: &[Limits]) -> u16
     ensures { result ≡ greatest_of (map cap runs.now) }
 {

@@ -1,16 +1,16 @@
-//! Tables with a cell for each place, which is filled once at most.
+//! Tables with a cell for each index, which is filled at most once.
 
 ghost use Rattle.std.specs.Prelude.{◌≡◌, ◌<◌, IfOk, None, Some, replicate, slice_index_or, slice_set};
 
 use std::alloc::{AllocError, Global};
 use std::marker::Model;
 
-/// A cell for each place, from 0.
+/// A cell for each index, from 0.
 pub(crate) struct Table<V> {
     cells: Vec<Option<V>>,
 }
 
-// By hand, so that who lets a table go has one call to prove.
+// Written by hand, so that a function that drops a table has one call to prove.
 impl<V: Drop> Drop for Table<V> {
     fn drop(self) {
         let Table { cells: _ } = self;
@@ -26,7 +26,7 @@ impl<V> Model for Table<V> {
 }
 
 impl<V: Copy> Table<V> {
-    /// So many empty cells.
+    /// A table of empty cells.
     pub(crate) fn new(alloc: Global, places: usize) -> Result<Table<V>, AllocError>
         ensures { IfOk result (λ table. table ≡ replicate places None) }
     {
@@ -35,21 +35,21 @@ impl<V: Copy> Table<V> {
         })
     }
 
-    /// What stands at a place; nothing does after the last.
-    pub(crate) fn get(&self, place: usize) -> Option<V>
-        ensures { result ≡ slice_index_or self.now place None }
+    /// The value in a cell, if it is filled; past the end there is none.
+    pub(crate) fn get(&self, index: usize) -> Option<V>
+        ensures { result ≡ slice_index_or self.now index None }
     {
-        match self.cells.get(place) {
+        match self.cells.get(index) {
             Some(cell) => *cell,
             None => None,
         }
     }
 
-    /// Fills a place. After the last there is none to fill.
-    pub(crate) fn set(&mut self, place: usize, value: V)
-        ensures { self.new ≡ slice_set self.old place (Some value) }
+    /// Fills a cell. Past the end nothing changes.
+    pub(crate) fn set(&mut self, index: usize, value: V)
+        ensures { self.new ≡ slice_set self.old index (Some value) }
     {
-        if let Some(cell) = self.cells.get_mut(place) {
+        if let Some(cell) = self.cells.get_mut(index) {
             *cell = Some(value);
         }
     }

@@ -21,8 +21,8 @@ use roster_bundle::{Day, Listed, NurseDay, Pair, Request, Requirement, WeekData,
 use std::alloc::{AllocError, Global};
 use std::marker::Model;
 
-/// A week: what each shift and skill needs, and for each nurse and weekday what the off requests and the wishes name,
-/// whether the nurse is absent, and whether the day is fixed.
+/// A week: the requirements of each shift and skill, and for each nurse and weekday what the off requests and
+/// the wishes name, whether the nurse is absent, and whether the day is fixed.
 pub(crate) struct Week {
     needs: Table<[Need; 7]>,
     off_requests: Vec<DayRequests>,
@@ -31,7 +31,7 @@ pub(crate) struct Week {
     fixed: Vec<bool>,
 }
 
-// By hand, so that who lets a week go has one call to prove.
+// Written by hand, so that a function that drops a week has one call to prove.
 impl Drop for Week {
     fn drop(self) {
         let Week {
@@ -49,16 +49,23 @@ impl Model for Week {
 
     ghost Value = { WeekFacts };
 
-    ghost view = { λ w. record { needs = w.needs; off_requests = w.off_requests.items; wishes = w.wishes.items; absences = w.absences.items; fixed = w.fixed.items } };
+    ghost view = { λ w. record {
+      needs = w.needs;
+      off_requests = w.off_requests.items;
+      wishes = w.wishes.items;
+      absences = w.absences.items;
+      fixed = w.fixed.items;
+    } };
 }
 
 impl Week {
-    /// Minimum and optimum of a place on a weekday; (0,0) where no line has them.
-    pub(crate) fn need(&self, place: usize, weekday: usize) -> Need
+    /// The minimum and the optimum of a shift and skill, by their index, on a weekday; (0,0) if no line has
+    /// them.
+    pub(crate) fn need(&self, index: usize, weekday: usize) -> Need
         ensures { result ≡ option_map_or (λ week. slice_index_or week weekday no_need)
-            (slice_index_or self.now.needs place None) no_need }
+            (slice_index_or self.now.needs index None) no_need }
     {
-        match self.needs.get(place) {
+        match self.needs.get(index) {
             Some(days) => match days.get(weekday) {
                 Some(need) => *need,
                 None => Need::default(),
@@ -67,48 +74,48 @@ impl Week {
         }
     }
 
-    /// What the off requests of a place name.
-    pub(crate) fn off_requests(&self, place: usize) -> DayRequests
-        ensures { result ≡ slice_index_or self.now.off_requests place no_requests }
+    /// What the off requests of a nurse and weekday name, by their index.
+    pub(crate) fn off_requests(&self, index: usize) -> DayRequests
+        ensures { result ≡ slice_index_or self.now.off_requests index no_requests }
     {
-        match self.off_requests.get(place) {
+        match self.off_requests.get(index) {
             Some(requests) => *requests,
             None => DayRequests::default(),
         }
     }
 
-    /// What the wishes to work of a place name.
-    pub(crate) fn wishes(&self, place: usize) -> DayRequests
-        ensures { result ≡ slice_index_or self.now.wishes place no_requests }
+    /// What the wishes to work of a nurse and weekday name, by their index.
+    pub(crate) fn wishes(&self, index: usize) -> DayRequests
+        ensures { result ≡ slice_index_or self.now.wishes index no_requests }
     {
-        match self.wishes.get(place) {
+        match self.wishes.get(index) {
             Some(requests) => *requests,
             None => DayRequests::default(),
         }
     }
 
-    /// Whether a place has an absence.
-    pub(crate) fn is_absent(&self, place: usize) -> bool
-        ensures { result ≡ slice_index_or self.now.absences place false }
+    /// Whether a nurse is absent on a weekday, by their index.
+    pub(crate) fn is_absent(&self, index: usize) -> bool
+        ensures { result ≡ slice_index_or self.now.absences index false }
     {
-        match self.absences.get(place) {
+        match self.absences.get(index) {
             Some(absent) => *absent,
             None => false,
         }
     }
 
-    /// Whether a place has a fixed day.
-    pub(crate) fn is_fixed(&self, place: usize) -> bool
-        ensures { result ≡ slice_index_or self.now.fixed place false }
+    /// Whether a nurse's weekday is fixed, by their index.
+    pub(crate) fn is_fixed(&self, index: usize) -> bool
+        ensures { result ≡ slice_index_or self.now.fixed index false }
     {
-        match self.fixed.get(place) {
+        match self.fixed.get(index) {
             Some(fixed) => *fixed,
             None => false,
         }
     }
 }
 
-/// A day by its number, from 0 for Monday.
+/// A day's number; 0 is Monday.
 pub(crate) fn weekday(day: Day) -> usize
     ensures number { result ≡ weekday day }
     ensures within { result < 7 }
@@ -140,18 +147,19 @@ impl<'a> Section<Requirement> for RequirementSection<'a> {
 
     ghost faults = { λ k. requirement_faults k.source k.shifts k.skills };
 
-    ghost built = { λ s earlier. s.lines ≡ needs_meant s.source.now s.scenario.now.shifts s.scenario.now.skills earlier };
+    ghost built = { λ s earlier.
+        s.lines ≡ needs_meant s.source.now s.scenario.now.shifts s.scenario.now.skills earlier };
 
     fn add(&mut self, line: &Requirement) -> Result<(), CaseFault> {
         let shift = self.scenario.shifts.number(self.source, line.shift)?;
         let skill = self.scenario.skills.number(self.source, line.skill)?;
-        let place = 8 * shift + skill;
-        if self.lines.get(place).is_some() {
+        let index = 8 * shift + skill;
+        if self.lines.get(index).is_some() {
             return Err(CaseFault::RepeatedRequirement {
                 line: line.skill.line,
             });
         }
-        self.lines.set(place, needs_of_week(&line.days));
+        self.lines.set(index, needs_of_week(&line.days));
         Ok(())
     }
 }
@@ -217,36 +225,37 @@ impl<'a> Section<Request> for RequestSection<'a> {
 
     ghost faults = { λ k earlier q. request_faults k.source k.nurses k.shifts q };
 
-    ghost built = { λ s earlier. s.requests.items ≡ requests_meant s.source.now s.scenario.now.nurses s.scenario.now.shifts earlier };
+    ghost built = { λ s earlier. s.requests.items
+        ≡ requests_meant s.source.now s.scenario.now.nurses s.scenario.now.shifts earlier };
 
     fn add(&mut self, request: &Request) -> Result<(), CaseFault> {
         let nurse = self.scenario.nurses.number(self.source, request.nurse)?;
-        let place = 7 * nurse + weekday(request.day);
+        let index = 7 * nurse + weekday(request.day);
         if request.shift.text(self.source) == b"Any".as_slice() {
-            request_any(&mut self.requests, place);
+            request_any(&mut self.requests, index);
         } else {
             let shift = self.scenario.shifts.number(self.source, request.shift)?;
-            request_shift(&mut self.requests, place, shift);
+            request_shift(&mut self.requests, index, shift);
         }
         Ok(())
     }
 }
 
-/// Marks that a request of a place says `Any`.
-fn request_any(requests: &mut [DayRequests], place: usize)
-    ensures { requests.new ≡ requests_with place with_any requests.old }
+/// Marks that a request with this index says `Any`.
+fn request_any(requests: &mut [DayRequests], index: usize)
+    ensures { requests.new ≡ requests_with index with_any requests.old }
 {
-    if place < requests.len() {
-        requests[place].any = true;
+    if index < requests.len() {
+        requests[index].any = true;
     }
 }
 
-/// Marks that a request of a place names a shift.
-fn request_shift(requests: &mut [DayRequests], place: usize, shift: usize)
-    ensures { requests.new ≡ requests_with place (with_shift shift) requests.old }
+/// Marks that a request with this index names a shift.
+fn request_shift(requests: &mut [DayRequests], index: usize, shift: usize)
+    ensures { requests.new ≡ requests_with index (with_shift shift) requests.old }
 {
-    if place < requests.len() {
-        name_shift(&mut requests[place].shifts, shift);
+    if index < requests.len() {
+        name_shift(&mut requests[index].shifts, shift);
     }
 }
 
@@ -258,7 +267,7 @@ fn name_shift(shifts: &mut [bool; 8], shift: usize)
     }
 }
 
-/// So many places without a request.
+/// The given number of entries without a request.
 fn no_requests(alloc: Global, places: usize) -> Result<Vec<DayRequests>, AllocError>
     ensures { IfOk result (λ requests. requests.items ≡ replicate places no_requests) }
 {
@@ -322,15 +331,15 @@ impl<'a> Section<NurseDay> for DaySection<'a> {
     }
 }
 
-fn mark(marks: &mut [bool], place: usize)
-    ensures { marks.new ≡ slice_set marks.old place true }
+fn mark(marks: &mut [bool], index: usize)
+    ensures { marks.new ≡ slice_set marks.old index true }
 {
-    if place < marks.len() {
-        marks[place] = true;
+    if index < marks.len() {
+        marks[index] = true;
     }
 }
 
-/// So many places without a line.
+/// The given number of flags, none of them set.
 fn no_marks(alloc: Global, places: usize) -> Result<Vec<bool>, AllocError>
     ensures { IfOk result (λ marks. marks.items ≡ replicate places false) }
 {
@@ -376,7 +385,8 @@ impl<'a> Section<WeekData> for WeekSection<'a> {
 
     ghost faults = { λ k earlier w. week_faults k w };
 
-    ghost built = { λ s earlier. s.weeks.items ≡ map (week_meant s.source.now s.scenario.now.shifts s.scenario.now.skills s.scenario.now.nurses) earlier };
+    ghost built = { λ s earlier. s.weeks.items ≡ map (week_meant s.source.now s.scenario.now.shifts
+        s.scenario.now.skills s.scenario.now.nurses) earlier };
 
     fn add(&mut self, week: &WeekData) -> Result<(), CaseFault> {
         check_instance(self.source, &self.scenario.name, week.scenario)?;

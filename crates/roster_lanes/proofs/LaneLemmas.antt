@@ -1,4 +1,4 @@
--- Vectors of `LANES` places: what is lowered, which bits are set, and which pointers are chosen.
+-- Vectors of `LANES` labels: what is lowered, which bits are set, and which pointers are chosen.
 use Rattle.std.proofs.Common.{◌≡◌, ℕ, ◌+◌, ◌-◌, ◌/◌, ◌%◌, ◌^◌, ◌<◌, ◌≤◌, min, Bool, true, false, not, cond, eqb, ltb, List, map, length, take, get_or, replicate, w32, refl, sym, ap, ap₂, ◌∙◌, subst, arith, ltb-true, ltb-false}
 use Rattle.std.specs.Int.{bit_at}
 use Rattle.std.proofs.lemmas.Bool.{eq-eqb, ne_eqb}
@@ -11,7 +11,7 @@ use lib.Lanes.{Each1, zip2, sel_l, mask_l, top, put_chunk, chunk}
 abbrev pub below : ℕ → ℕ → ℕ
 below a b = cond (ltb a b) (2 ^ 32 - 1) 0
 
--- the lanes of which the first is below the second
+-- whether the first is below the second, lane by lane
 abbrev pub marks : List ℕ → List ℕ → List Bool
 marks xs ys = map (top 31) (zip2 below xs ys)
 
@@ -30,7 +30,7 @@ least_is a b = go (ltb a b) refl
     go true e = omega (arith, ltb-true _ _ e)
     go false e = omega (arith, ltb-false _ _ e)
 
--- the smaller ones
+-- the smaller one of each lane
 abbrev pub least : List ℕ → List ℕ → List ℕ
 least xs ys = sel_l (marks xs ys) xs ys
 
@@ -50,7 +50,7 @@ pub least_at : (xs ys : List ℕ) (i : ℕ) → length xs ≡ LANES → length y
 least_at xs ys i p q lt =
     ap (λ (l : List ℕ). get_or l i 0) (put_chunk_whole xs (least xs ys) (p ∙ sym (length-least xs ys p q))) ∙ least_lane xs ys i p q lt
 
--- ---- the bits: where the smaller one isn't the first
+-- ---- the bits: whether the smaller one isn't the first
 
 abbrev pub differs : ℕ → ℕ → ℕ
 differs a b = cond (not (eqb a b)) (2 ^ 32 - 1) 0
@@ -98,12 +98,12 @@ bits_at xs ys i p q lt =
 pub array_whole : (xs : List ℕ) → length xs ≡ LANES → take LANES xs ≡ xs
 array_whole xs p = take_all LANES xs (omega arith)
 
--- ---- with so much more
+-- ---- raised labels
 
 pub raised_at : (xs : List ℕ) (first more i : ℕ) → first + LANES ≤ length xs → i < LANES
     → get_or (zip2 (λ a b. (a + b) % 2 ^ 32) (chunk first LANES xs) (replicate LANES more)) i 0 ≡ (get_or xs (first + i) 0 + more) % 2 ^ 32
-raised_at xs first more i room lt =
-    get_or-zip2 (λ a b. (a + b) % 2 ^ 32) (chunk first LANES xs) (replicate LANES more) i 0 0 0 (omega (arith, length-chunk first LANES xs room)) lt
+raised_at xs first more i within lt =
+    get_or-zip2 (λ a b. (a + b) % 2 ^ 32) (chunk first LANES xs) (replicate LANES more) i 0 0 0 (omega (arith, length-chunk first LANES xs within)) lt
     ∙ ap₂ (λ a b. (a + b) % 2 ^ 32) (get_or-chunk first LANES xs i 0 lt) (get_or-replicate LANES i more 0 lt)
 
 -- ---- the marks, narrowed to bytes, choose between the old pointers and the new one
@@ -155,7 +155,7 @@ module _ (sign : ℕ → ℕ → ℕ) (narrow : ℕ → ℕ) where
       go true = high
       go false = low
 
--- ---- where no bit is set, nothing is lower
+-- ---- if no bit is set, nothing is lower
 
 pub none_lower : (bits j a b : ℕ) → bits ≡ 0 → bit_at bits j ≡ cond (ltb a b) 1 0 → ltb a b ≡ false
 none_lower bits j a b none bit = go (ltb a b) (sym (ap (λ (n : ℕ). n / 2 ^ j % 2) none ∙ ap (λ (n : ℕ). n % 2) (zero-div (2 ^ j))) ∙ bit)

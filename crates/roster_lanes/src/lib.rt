@@ -1,7 +1,8 @@
-//! Labels that are lowered to smaller ones, 16 at a time, each with a pointer that says by what it was lowered.
+//! Labels that are lowered to smaller ones, 16 at a time, each with a pointer that says by what it was
+//! lowered.
 //!
-//! What is set and lowered is defined in `specs/Lanes.antt`. `lower16` promises it of 16 labels, by vectors; `lower_all` and `set_all`,
-//! which a search calls, of all labels of a slice.
+//! What is set and lowered is defined in `specs/Lanes.antt`. `lower16` promises it of 16 labels, by vectors.
+//! `lower_all` and `set_all`, which a search calls, promise it of all labels of a slice.
 #![tactic(auto)]
 
 mod lower;

@@ -6,10 +6,11 @@ ghost use Rattle.roster_lanes.specs.Lanes.{LabelsLowered, LabelsSet, PointersSet
 
 use std::simd::prelude::*;
 
-/// How many places one vector holds.
+/// The number of labels in one vector.
 pub const LANES: usize = 16;
 
-/// Each place becomes the smaller of the two. Bit i of the answer is set just where the second was strictly smaller at place i.
+/// Each label becomes the smaller of the two. Bit i of the result is set exactly if the second was strictly
+/// smaller at index i.
 #[inline(always)]
 pub fn lower16(labels: &mut [u32; LANES], others: &[u32; LANES]) -> u16
     ensures labels { (i : ℕ) → i < LANES → slice_index_or labels.new i 0 ≡ min
@@ -24,8 +25,8 @@ pub fn lower16(labels: &mut [u32; LANES], others: &[u32; LANES]) -> u16
     least.simd_ne(old).to_bitmask() as u16
 }
 
-/// Lowers each label to the other one at its place with so much more, where that is strictly smaller, and sets the label's pointer
-/// there. All other pointers stay. What is more than 32 bits hold is cut off.
+/// Lowers each label to the other one at its index plus `more`, if that is strictly smaller, and sets the
+/// label's pointer there. All other pointers stay. Bits above the 32nd are cut off.
 pub fn lower_all(labels: &mut [u32], pointers: &mut [u8], others: &[u32], more: u32, pointer: u8)
     requires pointers { length pointers.old ≡ length labels.old }
     requires others { length others.now ≡ length labels.old }
@@ -46,13 +47,13 @@ pub fn lower_all(labels: &mut [u32], pointers: &mut [u8], others: &[u32], more: 
     'vectors: for vector in 0..count / LANES {
         lower_at(labels, pointers, others, vector * LANES, more, pointer);
     }
-    // The places after the last whole vector, with some once more: what is lowered twice stays as it was.
+    // The labels after the last whole vector, with some once more: what is lowered twice stays as it was.
     if count % LANES != 0 {
         lower_at(labels, pointers, others, count - LANES, more, pointer);
     }
 }
 
-/// The same, one place after the other.
+/// The same, one label after the other.
 fn lower_few(labels: &mut [u32], pointers: &mut [u8], others: &[u32], more: u32, pointer: u8)
     requires pointers { length pointers.old ≡ length labels.old }
     requires others { length others.now ≡ length labels.old }
@@ -60,7 +61,7 @@ fn lower_few(labels: &mut [u32], pointers: &mut [u8], others: &[u32], more: u32,
     ensures pointers { PointersSet 0 (length labels.old) others.now more pointer labels.old
         pointers.old pointers.new }
 {
-    'places: for i in 0..labels.len() {
+    'lanes: for i in 0..labels.len() {
         let (label, candidate) = (labels[i], others[i].wrapping_add(more));
         // Read in any case, so that no branch is needed.
         let old = pointers[i];
@@ -69,7 +70,7 @@ fn lower_few(labels: &mut [u32], pointers: &mut [u8], others: &[u32], more: u32,
     }
 }
 
-/// The same for `LANES` places from a first one on.
+/// The same for `LANES` labels from a first one on.
 #[inline(always)]
 fn lower_at(
     labels: &mut [u32],
@@ -100,8 +101,8 @@ fn lower_at(
     }
 }
 
-/// Sets each label to the other one at its place with so much more, or to the most where that is smaller. What is more than 32 bits
-/// hold is cut off before.
+/// Sets each label to the other one at its index plus `more`, or to `most` if that is smaller. Bits above the
+/// 32nd are cut off before.
 pub fn set_all(labels: &mut [u32], others: &[u32], more: u32, most: u32)
     requires { length others.now ≡ length labels.old }
     ensures labels { (i : ℕ) → i < length labels.old →
@@ -116,23 +117,23 @@ pub fn set_all(labels: &mut [u32], others: &[u32], more: u32, most: u32)
     'vectors: for vector in 0..count / LANES {
         set_at(labels, others, vector * LANES, more, most);
     }
-    // The places after the last whole vector, with some once more: what is set twice is the same.
+    // The labels after the last whole vector, with some once more: setting them twice changes nothing.
     if count % LANES > 0 {
         set_at(labels, others, count - LANES, more, most);
     }
 }
 
-/// The same, one place after the other.
+/// The same, one label after the other.
 fn set_few(labels: &mut [u32], others: &[u32], more: u32, most: u32)
     requires { length others.now ≡ length labels.old }
     ensures labels { LabelsSet 0 (length labels.old) others.now more most labels.new }
 {
-    'places: for i in 0..labels.len() {
+    'lanes: for i in 0..labels.len() {
         labels[i] = others[i].wrapping_add(more).min(most);
     }
 }
 
-/// The same for `LANES` places from a first one on.
+/// The same for `LANES` labels from a first one on.
 #[inline(always)]
 fn set_at(labels: &mut [u32], others: &[u32], first: usize, more: u32, most: u32)
     requires labels { first + LANES ≤ length labels.old }
@@ -154,7 +155,7 @@ fn store(numbers: &mut [u32], new: &[u32; LANES])
     numbers.copy_from_slice(&new[..]);
 }
 
-/// The `LANES` numbers from a place on.
+/// The `LANES` numbers from an index on.
 #[inline(always)]
 fn load(numbers: &[u32], first: usize) -> [u32; LANES]
     requires { first + LANES ≤ length numbers.now }
@@ -164,7 +165,7 @@ fn load(numbers: &[u32], first: usize) -> [u32; LANES]
     u32x16::from_slice(&numbers[first..]).to_array()
 }
 
-/// The `LANES` numbers from a place on, each with so much more.
+/// The `LANES` numbers from an index on, each plus `more`.
 #[inline(always)]
 fn raised_at(others: &[u32], first: usize, more: u32) -> [u32; LANES]
     requires others { first + LANES ≤ length others.now }
@@ -173,7 +174,7 @@ fn raised_at(others: &[u32], first: usize, more: u32) -> [u32; LANES]
     (u32x16::from_slice(&others[first..]) + u32x16::splat(more)).to_array()
 }
 
-/// Lowers `LANES` labels. The answer is 0 where none becomes smaller.
+/// Lowers `LANES` labels. The result is 0 if none becomes smaller.
 #[inline(always)]
 fn lower_labels(labels: &mut [u32], candidates: &[u32; LANES]) -> u16
     requires { length labels.old ≡ LANES }
@@ -183,13 +184,13 @@ fn lower_labels(labels: &mut [u32], candidates: &[u32; LANES]) -> u16
         i ≡ (if nat_lt (slice_index_or candidates.now i 0) (slice_index_or labels.old i 0) then 1
         else 0) }
 {
-    let Some(places) = labels.as_mut_array() else {
+    let Some(lanes) = labels.as_mut_array() else {
         unreachable!()
     };
-    lower16(places, candidates)
+    lower16(lanes, candidates)
 }
 
-/// Sets the pointers of `LANES` labels where the label isn't the old one.
+/// Sets the pointers of those of `LANES` labels that aren't the old ones.
 #[inline(always)]
 fn set_pointers(pointers: &mut [u8], old: &[u32; LANES], labels: &[u32], pointer: u8)
     requires pointers { length pointers.old ≡ LANES }

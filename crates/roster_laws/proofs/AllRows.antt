@@ -1,4 +1,4 @@
--- Among all rows each row of the case stands once, and no other.
+-- The list of all rows has each row of the case once, and no other.
 use Rattle.std.proofs.Common.{◌≡◌, ◌∙◌, ◌+◌, ◌*◌, ◌<◌, ◌&&◌, ◌==◌, ℕ, zero, suc, Bool, true, false, cond, ap, ap₂, arith, sym, refl, List, [], ◌∷◌, length, map, add-mul, nat_le, nat_lt, Contains, if◌then◌else◌}
 use Rattle.std.specs.List.{All, count_by, flat_map, list_all, range_with_len, sum_by}
 use Rattle.std.proofs.lemmas.Bool.{ne_eqb}
@@ -38,7 +38,7 @@ sum-none : {X : Type 0} (xs : List X) → sum_by (λ x. 0) xs ≡ 0
 sum-none [] = refl
 sum-none {X} (x ∷ xs) = omega (arith, sum_by-cons (λ (y : X). 0) x xs, sum-none xs)
 
--- the same number where a test passes, else none
+-- a sum that has the same number n for each item that passes a test, and 0 for the others
 count-times : {X : Type 0} (p : X → Bool) (n : ℕ) (xs : List X) → sum_by (λ x. if p x then n else 0) xs ≡ count_by p xs * n
 count-times p n [] = omega arith
 count-times p n (x ∷ xs) =

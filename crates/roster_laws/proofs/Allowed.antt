@@ -16,7 +16,7 @@ use Rattle.roster_laws.proofs.AllRows.{member_is_row, row_is_member}
 use Rattle.roster_laws.proofs.Below.{all_true}
 use Rattle.roster_laws.proofs.SameRows.{same_choice_self}
 
--- ---- what is kept of a list
+-- ---- filtered lists
 
 module _ {X : Type 0} (p : X → Bool) where
   pub kept_is_member : (xs : List X) (x : X) → Contains (filter p xs) x → Contains xs x
@@ -84,7 +84,7 @@ module _ (c : Meaning) (from : ℕ) (r : Rows) (n : ℕ) where
     pub best_exists : IsSome (best_row c from r n)
     best_exists = some_least (penalty_with c r n) (allowed_rows c from r n) (row_of r n) present_allowed
 
--- ---- from week 0 on no day is frozen, where none is fixed
+-- ---- from week 0 on no day is frozen, if none is fixed
 
 none_frozen : (c : Meaning) → NothingIsFixed c → (r : Rows) (n : ℕ) (row : Row) → keeps_frozen_days c 0 r n row ≡ true
 none_frozen c nothing r n row =

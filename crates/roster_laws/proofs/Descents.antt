@@ -1,4 +1,4 @@
--- Along a log the penalty never rises, and falls at each change.
+-- Along a log the penalty never rises, and it falls at each change.
 use Rattle.std.proofs.Common.{◌≡◌, ◌∙◌, ◌+◌, ◌≤◌, ◌⊎◌, ℕ, zero, suc, Bool, true, false, cond, inl, inr, ap, arith, sym, subst, refl, List, [], ◌∷◌, ◌++◌}
 use Rattle.std.specs.List.{All, AllPairs, fold, range_with_len}
 use Rattle.std.proofs.lemmas.Bool.{cases_Bool, true≢false}

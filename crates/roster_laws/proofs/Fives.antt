@@ -1,10 +1,11 @@
--- Each penalty is a multiple of 5, since each weight is, where what a roster that is kept costs on a day is one too.
+-- Each penalty is a multiple of 5, since each weight is, if the points for a roster that is kept are a
+-- multiple of 5 too.
 use Rattle.std.proofs.Common.{◌≡◌, ◌+◌, ◌*◌, ◌%◌, ◌<◌, ◌≤◌, ◌⊎◌, ◌==◌, ℕ, zero, suc, Bool, true, false, ap, arith, inl, inr, refl, subst, if◌then◌else◌}
 use Rattle.std.proofs.lemmas.Bool.{eqb-true}
 use Rattle.roster_instance.specs.Counting.{sum_below}
 use Rattle.roster_instance.specs.Days.{Days, split_weekends}
 use Rattle.roster_instance.specs.Meaning.{Meaning, contract_of, day_count, nurse_count, shift_count, skill_count}
-use Rattle.roster_rules.specs.Penalties.{breaks_off_request, is_kept, keep_cost, meets_wishes, costs_of, free_run_cost, off_request_cost, over_nurses, penalty, penalty_unit, run_cost_of_shift, shift_run_cost, split_cost, staffing_cost, staffing_cost_of_day, staffing_cost_of_place, totals_cost, weekends_cost, wish_cost, working_run_cost}
+use Rattle.roster_rules.specs.Penalties.{breaks_off_request, is_kept, keep_cost, meets_wishes, costs_of, free_run_cost, off_request_cost, over_nurses, penalty, penalty_unit, run_cost_of_shift, shift_run_cost, split_cost, staffing_cost, staffing_cost_of_day, staffing_cost_of_slot, totals_cost, weekends_cost, wish_cost, working_run_cost}
 use Rattle.roster_rules.specs.Weights.{staffing_weight, working_run_weight, shift_run_weight, free_run_weight, off_request_weight, split_weight, assignment_weight, weekend_weight, wish_weight}
 use Rattle.roster_instance.specs.Rosters.{Rows, cover, days_of_nurse}
 
@@ -52,7 +53,7 @@ whole n = omega arith
 
 module _ (c : Meaning) where
   staffing_is : (r : Rows) → IsFive (staffing_cost c r)
-  staffing_is r = sum_is (day_count c) (staffing_cost_of_day c r) (λ d. sum_is (shift_count c) _ (λ s. sum_is (skill_count c) (staffing_cost_of_place c d (cover r d) s) (λ k. by_staffing _)))
+  staffing_is r = sum_is (day_count c) (staffing_cost_of_day c r) (λ d. sum_is (shift_count c) _ (λ s. sum_is (skill_count c) (staffing_cost_of_slot c d (cover r d) s) (λ k. by_staffing _)))
 
   runs_are : (n : ℕ) (days : Days) → IsFive (working_run_cost c n days + shift_run_cost c n days)
   runs_are n days = plus (working_run_cost c n days) (shift_run_cost c n days) (by_working_run _) (sum_is (shift_count c) (run_cost_of_shift c n days) (λ s. by_shift_run _))
@@ -93,7 +94,7 @@ module _ (c : Meaning) where
       let wishes = plus _ _ worked (over_nurses_is r (wish_cost c) wishes_are) in
       plus _ _ wishes (over_nurses_is r (keep_cost c) (keeps_are five))
 
-  -- it is one of its unit
+  -- a penalty is a multiple of its unit
   pub penalty_is : (r : Rows) → penalty c r % penalty_unit c ≡ 0
   unfolding penalty_unit
   penalty_is r = go (c.keep % 5 == 0) refl
@@ -109,7 +110,7 @@ one_of_them : (b : Bool) → (unit_by b ≡ 5) ⊎ (unit_by b ≡ 1)
 one_of_them true = inl refl
 one_of_them false = inr refl
 
--- the unit is one of two
+-- the unit is 5 or 1
 pub unit_is : (c : Meaning) → (penalty_unit c ≡ 5) ⊎ (penalty_unit c ≡ 1)
 unfolding penalty_unit
 unit_is c = one_of_them (c.keep % 5 == 0)
@@ -121,12 +122,12 @@ five_unit c five = ap (λ n. if n == 0 then 5 else 1) five
 by_fives : (p q : ℕ) → p % 5 ≡ 0 → q % 5 ≡ 0 → p < q → p + 5 ≤ q
 by_fives p q e f less = omega (arith, e, f, less)
 
--- two multiples of it that differ do so by as much
+-- two multiples of the unit that differ do so by at least the unit
 pub by_unit : (u p q : ℕ) → (u ≡ 5) ⊎ (u ≡ 1) → p % u ≡ 0 → q % u ≡ 0 → p < q → p + u ≤ q
 by_unit u p q (inl five) e f less = rw five (by_fives p q (subst (λ m. p % m ≡ 0) five e) (subst (λ m. q % m ≡ 0) five f) less)
 by_unit u p q (inr one) e f less = omega (arith, one, less)
 
--- and none is more than as many times it
+-- n is at most n times the unit
 pub within_times : (u n : ℕ) → (u ≡ 5) ⊎ (u ≡ 1) → n ≤ u * n
 within_times u n (inl five) = rw five (omega arith)
 within_times u n (inr one) = rw one (omega arith)

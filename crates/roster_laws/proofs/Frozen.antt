@@ -1,4 +1,5 @@
--- What steps of best rows from a week on keep: the frozen days of each nurse, and the roster where all days are frozen.
+-- What steps of best rows from a week on keep: the frozen days of each nurse, and the whole roster if all
+-- days are frozen.
 use Rattle.std.proofs.Common.{◌≡◌, ◌∙◌, ◌<◌, ◌≤◌, ◌⊎◌, ◌/◌, ◌||◌, ◌==◌, ℕ, Bool, true, false, not, cond, inl, inr, ap, arith, refl, sym, [], ◌∷◌, length, nat_lt, Contains, Option, Some, None}
 use Rattle.std.specs.List.{list_all}
 use Rattle.std.proofs.lemmas.Bool.{and_parts, cases_eq, cases_lt, eqb-true, lt-ltb}
@@ -32,7 +33,7 @@ module _ (c : Meaning) (from : ℕ) where
   pub stays_on : (r s t : Rows) → FrozenDaysStay c from r s → FrozenDaysStay c from s t → FrozenDaysStay c from r t
   stays_on r s t first later n d within frozen = later n d within frozen ∙ first n d within frozen
 
-  -- a row put in that keeps the nurse's frozen days
+  -- putting in a row that keeps the nurse's frozen days
   pub row_stays : (r : Rows) (n : ℕ) (row : Row) → keeps_frozen_days c from r n row ≡ true → FrozenDaysStay c from r (with_row r n row)
   row_stays r n row keeps m d within frozen = go (cases_lt n (length r)) (cases_eq m n)
     where
@@ -62,11 +63,11 @@ module _ (c : Meaning) (from : ℕ) where
       go None e = stays_self r
       go (Some row) e = chosen row (nat_lt (penalty c (with_row r n row)) (penalty c r)) (allowed_keeps c from r n row (best_is_allowed c from r n row e)).1
 
-  -- a step after others
+  -- one more step
   pub steps_stay : (first r : Rows) (n : ℕ) → FrozenDaysStay c from first r → FrozenDaysStay c from first (step c (best_row c from) r n)
   steps_stay first r n so_far = stays_on first r (step c (best_row c from) r n) so_far (step_stays r n)
 
-  -- ---- where all days are frozen
+  -- ---- all days are frozen
 
   module _ (all : week_count c ≤ from) where
     each_frozen : (n d : ℕ) → d < day_count c → is_frozen c from n d ≡ true

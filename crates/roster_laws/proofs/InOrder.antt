@@ -1,4 +1,4 @@
--- All rows stand in their order.
+-- The list of all rows is in the order of rows.
 use Rattle.std.proofs.Common.{◌≡◌, ◌∙◌, ℕ, zero, suc, ap, arith, sym, refl, List, [], ◌∷◌, ◌++◌, append_assoc, map}
 use Rattle.std.specs.List.{All, AllPairs, flat_map}
 use Rattle.std.proofs.lemmas.List.Elements.{All-append, All-cons, All-head, All-map, All-nil, All-tail}
@@ -34,7 +34,7 @@ module _ {A : Type 0} (items : List A) where
   abbrev Earlier : List A → List A → Type 0
   Earlier a b = IsEarlier items a b
 
-  -- with one more item in front
+  -- the same, with an item in front of both
   longer : (x : A) (a b : List A) → Earlier a b → Earlier (x ∷ a) (x ∷ b)
   longer x a b e = record {
     same = x ∷ e.same;

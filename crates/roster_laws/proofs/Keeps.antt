@@ -1,4 +1,4 @@
--- The hard rules by parts, and with one nurse's row replaced.
+-- The hard rules taken apart, and with one nurse's row replaced.
 use Rattle.std.proofs.Common.{◌≡◌, ◌∙◌, ◌+◌, ◌<◌, ◌&&◌, ℕ, zero, suc, Bool, true, false, not, ap, ap₂, arith, refl, sym, List, [], ◌∷◌, ◌++◌, length, nat_lt}
 use Rattle.std.proofs.lemmas.Bool.{and_parts}
 use Rattle.roster_bundle.proofs.Ranges.{flat_map-range_more}
@@ -14,7 +14,7 @@ use Rattle.roster_laws.specs.Staffing.{meets, with_choice}
 use Rattle.roster_laws.proofs.Below.{all_at, all_both, all_elim, all_same}
 use Rattle.roster_laws.proofs.OneRow.{cover-with_row, other_row, own_row}
 
--- ---- no fault is a test
+-- ---- there is no fault exactly if a test passes
 
 pub none_of_both : {F : Type 0} (xs ys : List F) → is_none_of (xs ++ ys) ≡ (is_none_of xs && is_none_of ys)
 none_of_both [] ys = refl
@@ -79,7 +79,7 @@ and_turned false f true false = refl
 and_turned false f false h = refl
 
 module _ (c : Meaning) (r : Rows) (keeps : keeps_hard c r ≡ true) (n : ℕ) (within : n < length r) (inside : n < nurse_count c) (row : Row) where
-  -- a rule of each nurse, which the others keep already
+  -- a rule for each nurse, which the others keep already
   of_one : (p : ℕ → Row → Bool) → all_below (nurse_count c) (λ m. p m (row_of r m)) ≡ true → all_below (nurse_count c) (λ m. p m (row_of (with_row r n row) m)) ≡ p n row
   of_one p kept =
       all_at (nurse_count c) n (λ m. p m (row_of (with_row r n row) m)) inside (λ m h other. ap (p m) (other_row r n within row m other) ∙ all_elim (nurse_count c) (λ m. p m (row_of r m)) kept m h)
@@ -99,7 +99,7 @@ module _ (c : Meaning) (r : Rows) (keeps : keeps_hard c r ≡ true) (n : ℕ) (w
       ∙ ap (λ b. b && keeps_successions c n (days_of row) D) (sym (all_both D (λ d. may_take c n d (choice_on row d)) met))
       ∙ sym (all_both D (λ d. is_open c r n d (choice_on row d)) (λ d. not (breaks_succession c n (days_of row) d)))
 
-  -- ---- and keeps the frozen days: where each choice is offered
+  -- ---- with the frozen days as well: each choice is offered
 
   pub allowed-with_row : (from : ℕ) → (keeps_hard c (with_row r n row) && keeps_frozen_days c from r n row) ≡ is_offered_row c from r n row (day_count c)
   allowed-with_row from =

@@ -1,4 +1,4 @@
--- What each step keeps holds all along a log, and at the run's end.
+-- What each step preserves holds all along a log, and at the run's end.
 use Rattle.std.proofs.Common.{◌≡◌, ◌+◌, ◌⊎◌, ℕ, zero, suc, Bool, true, false, cond, inl, inr, arith, refl, List, [], ◌∷◌, Option, Some, None, nat_lt, Contains}
 use Rattle.std.specs.List.{All, fold, range_with_len}
 use Rattle.std.proofs.lemmas.Bool.{and_parts, cases_Bool}
@@ -66,7 +66,7 @@ module _ (c : Meaning) (best : BestRows) (P : Rows → Type 0) (steps : (r : Row
       ] in
       go (cases_Bool (same_rows (round c best r) r))
 
--- ---- the best row keeps the roster fitting, and the hard rules
+-- ---- the best row preserves that the roster fits, and the hard rules
 
 abbrev pub IsKept : Meaning → Rows → Type 0
 IsKept c r = (fits_case c r ≡ true) × (keeps_hard c r ≡ true)

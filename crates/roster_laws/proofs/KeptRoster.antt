@@ -25,12 +25,12 @@ penalty_is : (c : Meaning) (r : Rows) → penalty c r ≡ eight_rules c r + over
 unfolding penalty costs_of eight_rules
 penalty_is c r = refl
 
--- of these none looks at a roster that is kept
+-- none of these depends on a roster that is kept
 kept_penalty_is : (c : Meaning) (rows : Rows) (keep : ℕ) (r : Rows) → penalty (with_kept c rows keep) r ≡ eight_rules c r + over_nurses (with_kept c rows keep) r (keep_cost (with_kept c rows keep))
 unfolding penalty costs_of eight_rules
 kept_penalty_is c rows keep r = refl
 
--- ---- what is kept costs so much for each change
+-- ---- a roster that is kept costs its points for each change
 
 times_below : (m keep : ℕ) (f g : ℕ → ℕ) → ((n : ℕ) → f n ≡ keep * g n) → sum_below m f ≡ keep * sum_below m g
 times_below zero keep f g each = sym (mul-zero keep)
@@ -49,7 +49,7 @@ module _ (c : Meaning) (rows : Rows) (keep : ℕ) (r : Rows) where
   all_nurses : over_nurses (with_kept c rows keep) r (keep_cost (with_kept c rows keep)) ≡ keep * changed_days c rows r
   all_nurses = times_below (nurse_count c) keep (λ n. keep_cost (with_kept c rows keep) n (days_of_nurse r n)) (changed_days_of rows r) one_nurse
 
--- ---- and nothing at no points
+-- ---- and nothing at 0 points
 
 none_at_no_points : (c : Meaning) → c.keep ≡ 0 → (r : Rows) → over_nurses c r (keep_cost c) ≡ 0
 none_at_no_points c none r = nothing_below (nurse_count c) (λ n. keep_cost c n (days_of_nurse r n)) (λ n. free_days_at_no_points c n (days_of_nurse r n) none)

@@ -1,7 +1,7 @@
 pub mod Below
 pub mod OneRow
 pub mod Keeps
-pub mod Lacking
+pub mod Shortfall
 pub mod SameRows
 pub mod Fives
 pub mod Steps

@@ -1,4 +1,4 @@
--- Where no week has the section of absences, nobody is absent, and no work breaks an absence.
+-- If no week has the section of absences, nobody is absent, and no work breaks an absence.
 use Rattle.std.proofs.Common.{◌≡◌, ◌∙◌, ◌/◌, ◌*◌, ◌+◌, ◌%◌, ℕ, zero, suc, Bool, true, false, not, ap, refl, List, [], ◌∷◌, ◌++◌, Option, None, append-nil, flat_map, length, map, slice_index_or, filter, ◌&&◌}
 use Rattle.std.specs.List.{All, range_with_len}
 use Rattle.std.proofs.lemmas.List.Elements.{All-head, All-tail}

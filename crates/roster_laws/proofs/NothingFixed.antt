@@ -1,4 +1,5 @@
--- Where no week has the section of fixed days, no day of a nurse is fixed, and the frozen days are those of weeks.
+-- If no week has the section of fixed days, no day of a nurse is fixed, and the frozen days are those of
+-- whole weeks.
 use Rattle.std.proofs.Common.{◌≡◌, ◌∙◌, ◌/◌, ◌*◌, ◌+◌, ◌%◌, ℕ, zero, suc, false, not, ap, refl, List, [], ◌∷◌, ◌&&◌, ◌||◌, filter, map, nat_lt, slice_index_or}
 use Rattle.std.proofs.Math.Bool.{or-false}
 use Rattle.std.specs.List.{All}

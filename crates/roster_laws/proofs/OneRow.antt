@@ -14,7 +14,7 @@ use Rattle.roster_laws.specs.Staffing.{with_choice}
 use Rattle.roster_rules.proofs.RunBounds.{sum_both}
 use Rattle.roster_laws.proofs.Below.{sum_at}
 
--- ---- the penalty is the staffing and each nurse's cost
+-- ---- the penalty is that of the staffing plus each nurse's cost
 
 regroup : (m : ℕ) (w s f u p t e v k : ℕ → ℕ) → sum_below m (λ n. w n + s n) + sum_below m f + sum_below m u + sum_below m p + sum_below m t + sum_below m e + sum_below m v + sum_below m k ≡ sum_below m (λ n. (w n + s n + f n + p n + t n + e n) + (u n + v n + k n))
 regroup zero w s f u p t e v k = refl
@@ -30,7 +30,7 @@ penalty-parts c r =
           (λ n. keep_cost c n (days_of_nurse r n)),
     )
 
--- ---- what a row costs in requests is what each of its days does
+-- ---- the requests of a row cost what those of its days cost together
 
 pub requests_of_row : (c : Meaning) (n : ℕ) (row : Row) → request_cost c n (days_of row) ≡ sum_below (length row) (λ d. request_cost_on c n d (shift_of (choice_on row d)))
 requests_of_row c n row =

@@ -1,4 +1,4 @@
--- The changes of a round: what they lower the penalty by, and a round without any.
+-- The changes of a round: by how much they lower the penalty, and a round without any.
 use Rattle.std.proofs.Common.{◌≡◌, ◌∙◌, ◌+◌, ◌*◌, ◌<◌, ◌≤◌, ℕ, zero, suc, Bool, true, false, cond, ap, arith, subst, sym, refl, List, [], ◌∷◌, ◌++◌, length, length-append}
 use Rattle.std.specs.List.{fold, range_with_len}
 use Rattle.std.proofs.Math.Nat.{mul-suc, mul-zero}
@@ -46,7 +46,7 @@ module _ (c : Meaning) (best : BestRows) (k : ℕ) where
       let one : rounds_in first ≡ 0 = elim (same_rows next r) as (λ b. rounds_in (cond b [] (entry (changed k n) next ∷ [])) ≡ 0) [ true ↦ refl | false ↦ refl ] in
       omega (arith, one, rounds_in-changes ns next, rounds_in-append first rest)
 
-  -- how many changes a round has
+  -- the number of changes in a round
   abbrev pub change_count : Rows → ℕ
   change_count r = length (changes c best k (range_with_len 0 (nurse_count c)) r)
 
@@ -77,7 +77,7 @@ module _ (c : Meaning) (best : BestRows) (k : ℕ) where
       ] in
       go (same_rows next r) refl
 
-  -- where none changed the roster, it is the same, and each step leaves it
+  -- if no step changed the roster, it is the same, and each step leaves it as it is
   none_changes : (ns : List ℕ) (r : Rows) → length (changes c best k ns r) ≡ 0 → fold (step c best) r ns ≡ r
   none_changes [] r none = refl
   none_changes (n ∷ ns) r none =
@@ -89,11 +89,11 @@ module _ (c : Meaning) (best : BestRows) (k : ℕ) where
       ] in
       go (same_rows next r) refl none
 
-  at_place : (a m : ℕ) (r : Rows) (i : ℕ) → i < suc m → step c best r a ≡ r → ((j : ℕ) → j < m → step c best r ((a + 1) + j) ≡ r) → step c best r (a + i) ≡ r
-  at_place a m r zero within here later =
+  at_step : (a m : ℕ) (r : Rows) (i : ℕ) → i < suc m → step c best r a ≡ r → ((j : ℕ) → j < m → step c best r ((a + 1) + j) ≡ r) → step c best r (a + i) ≡ r
+  at_step a m r zero within here later =
       let e : a + zero ≡ a = omega arith in
       ap (step c best r) e ∙ here
-  at_place a m r (suc j) within here later =
+  at_step a m r (suc j) within here later =
       let e : a + suc j ≡ (a + 1) + j = omega arith in
       ap (step c best r) e ∙ later j (omega (arith, within))
 
@@ -103,7 +103,7 @@ module _ (c : Meaning) (best : BestRows) (k : ℕ) where
       let next = step c best r a in
       let go : (b : Bool) → same_rows next r ≡ b → length (cond b [] (entry (changed k a) next ∷ []) ++ changes c best k (range_with_len (a + 1) m) next) ≡ 0 → step c best r (a + i) ≡ r =
       elim [
-        | true ↦ (λ e h. at_place a m r i within (same_rows_is next r e) (none_steps (a + 1) m r (subst (λ s. length (changes c best k (range_with_len (a + 1) m) s) ≡ 0) (same_rows_is next r e) h)))
+        | true ↦ (λ e h. at_step a m r i within (same_rows_is next r e) (none_steps (a + 1) m r (subst (λ s. length (changes c best k (range_with_len (a + 1) m) s) ≡ 0) (same_rows_is next r e) h)))
         | false ↦ (λ e h. elim (some_is_none (length (changes c best k (range_with_len (a + 1) m) next)) h) [ ])
       ] in
       go (same_rows next r) refl none

@@ -68,7 +68,7 @@ module _ (c : Meaning) (best : BestRows) where
   unfolding log_of
   last rounds r = more_before (entry started r ∷ []) (entries_from c best 1 rounds r) _ (ends_with 1 rounds r)
 
-  -- ---- how many rounds
+  -- ---- the number of rounds
 
   rounds_in-settled : (k m : ℕ) (r : Rows) → same_rows (round c best r) r ≡ true → rounds_in (entries_from c best k (suc m) r) ≡ 1
   rounds_in-settled k m r same = omega (arith, ap rounds_in (entries-settled k m r same), rounds_in-append (round_log c best k r) (entry settled r ∷ []), rounds_in-round c best k r)
@@ -107,7 +107,7 @@ module _ (c : Meaning) (best : BestRows) where
   pub all : (rounds : ℕ) (r : Rows) → (run c best rounds r).is_settled ≡ false → rounds_in (log_of c best rounds r) ≡ rounds
   all rounds r open_end = rounds_in-log rounds r ∙ rounds_all 1 rounds r open_end
 
-  -- ---- where a run is settled, no round and no step changes anything
+  -- ---- if a run is settled, no round and no step changes anything
 
   settled_where : (m : ℕ) (r : Rows) → (run c best m r).is_settled ≡ true → same_rows (round c best (run c best m r).roster) (run c best m r).roster ≡ true
   settled_where zero r end = absurd (true≢false (sym end ∙ end-stopped r))
@@ -127,7 +127,7 @@ module _ (c : Meaning) (best : BestRows) where
       let last = (run c best m r).roster in
       ap (step c best last) (sym (zero-add n)) ∙ none_steps c best 0 0 (nurse_count c) last (stays_none c best 0 last (settled_where m r end)) n within
 
-  -- ---- where it stopped, its last round changed something
+  -- ---- if it is stopped, its last round changed something
 
   pub stopped_round : (m : ℕ) (r : Rows) → (run c best (suc m) r).is_settled ≡ false
       → ((run c best (suc m) r).roster ≡ round c best (run c best m r).roster) × (same_rows (run c best (suc m) r).roster (run c best m r).roster ≡ false)
@@ -174,7 +174,7 @@ module _ (c : Meaning) (best : BestRows) where
   unfolding log_of
   fall rounds r = rw (changes_in-append (entry started r ∷ []) (entries_from c best 1 rounds r)) (omega (arith, run_falls 1 rounds r, ap (λ n. penalty_unit c * n) (started_alone r)))
 
-  -- each round of a run that is not settled changes something
+  -- each round of a run that isn't settled changes something
   changes_some : (k m : ℕ) (r : Rows) → (run c best m r).is_settled ≡ false → m ≤ changes_in (entries_from c best k m r)
   changes_some k zero r open_end = omega arith
   changes_some k (suc m) r open_end =
@@ -196,7 +196,7 @@ module _ (c : Meaning) (best : BestRows) where
       ] in
       go (cases_Bool (run c best rounds r).is_settled)
 
--- where a run of the best rows is settled, no allowed row is cheaper
+-- if a run of the best rows is settled, no allowed row is cheaper
 pub settled_rows : (c : Meaning) (from m : ℕ) (r : Rows) → (run c (best_row c from) m r).is_settled ≡ true → (n : ℕ) → n < nurse_count c
     → All (λ row. penalty c (run c (best_row c from) m r).roster ≤ penalty_with c (run c (best_row c from) m r).roster n row) (allowed_rows c from (run c (best_row c from) m r).roster n)
 settled_rows c from m r end n within =

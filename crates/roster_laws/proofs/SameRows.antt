@@ -1,4 +1,4 @@
--- The test whether two rosters have the same rows tells whether they are one.
+-- The test whether two rosters have the same rows passes exactly if they are equal.
 use Rattle.std.proofs.Common.{◌≡◌, ◌∙◌, ◌==◌, true, ap, ap₂, sym, refl, [], ◌∷◌}
 use Rattle.std.proofs.lemmas.Bool.{and_from, and_parts, eq-eqb, eqb-true, true≢false}
 use Rattle.roster_instance.specs.declared.choice.Choice.{Choice}

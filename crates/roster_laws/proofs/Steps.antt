@@ -33,7 +33,7 @@ module _ (c : Meaning) (best : BestRows) (r : Rows) (n : ℕ) where
   cheaper_differs less =
       false_from_ne_true (same_rows (step c best r n) r) (λ e. no_less (penalty c (step c best r n)) (penalty c r) less (ap (penalty c) (same_rows_is (step c best r n) r e)))
 
-  -- it changes the roster just where it makes it cheaper
+  -- a step changes the roster exactly if it makes it cheaper
   pub changed_is_cheaper : not (same_rows (step c best r n) r) ≡ nat_lt (penalty c (step c best r n)) (penalty c r)
   changed_is_cheaper =
       let go : (step c best r n ≡ r) ⊎ (penalty c (step c best r n) < penalty c r) → not (same_rows (step c best r n) r) ≡ nat_lt (penalty c (step c best r n)) (penalty c r) =
@@ -43,7 +43,7 @@ module _ (c : Meaning) (best : BestRows) (r : Rows) (n : ℕ) where
       ] in
       go step_falls
 
-  -- and then by a unit at least
+  -- and then by at least the unit
   pub falls_by_unit : same_rows (step c best r n) r ≡ false → penalty c (step c best r n) + penalty_unit c ≤ penalty c r
   falls_by_unit differs =
       let go : (step c best r n ≡ r) ⊎ (penalty c (step c best r n) < penalty c r) → penalty c (step c best r n) + penalty_unit c ≤ penalty c r =
@@ -56,7 +56,7 @@ module _ (c : Meaning) (best : BestRows) (r : Rows) (n : ℕ) where
 -- ---- with the best row
 
 module _ (c : Meaning) (from : ℕ) (r : Rows) (n : ℕ) where
-  -- the penalty that a step reaches is at most that of each allowed row
+  -- the penalty after a step is at most that with any allowed row
   pub step_is_least : All (λ row. penalty c (step c (best_row c from) r n) ≤ penalty_with c r n row) (allowed_rows c from r n)
   unfolding step
   step_is_least = go (best_row c from r n) refl

@@ -1,4 +1,4 @@
--- Bundles without the section of absences, and the hard rules that they leave: H1 to H4 alone.
+-- Bundles without the section of absences, and the hard rules that are left for them: H1 to H4.
 use Rattle.std.specs.Prelude.{◌≡◌, ℕ, false, ◌&&◌, List, ◌++◌, All, None, filter}
 use Rattle.roster_bundle.specs.declared.bundle.Bundle.{Bundle}
 use Rattle.roster_bundle.specs.declared.bundle.WeekData.{WeekData}
@@ -10,7 +10,7 @@ use Rattle.roster_rules.specs.AllowedRows.{keeps_frozen_days}
 use Rattle.roster_rules.specs.HardRules.{skill_faults, staffing_faults, succession_faults}
 use Rattle.roster_rules.specs.declared.fault.HardFault.{HardFault}
 
--- the week is without the section, and so is each week of the bundle
+-- the week doesn't have the section; below, no week of the bundle has it
 abbrev pub HasNoSection : WeekData → Type 0
 HasNoSection w = w.absences ≡ None
 
@@ -21,11 +21,13 @@ ListsNoAbsences b = All HasNoSection b.week_data
 abbrev pub NobodyIsAbsent : Meaning → Type 0
 NobodyIsAbsent c = (n d : ℕ) → is_absent c n d ≡ false
 
--- the breaches of H1 to H4 in their order; by its form no roster breaks H1, which is looked at in the lines of the texts
+-- the breaches of H1 to H4 in their order; no roster breaks H1, by its form, so H1 is checked in the lines of
+-- the texts
 abbrev pub first_four_faults : Meaning → Rows → List HardFault
 first_four_faults c r = staffing_faults c r ++ succession_faults c r ++ skill_faults c r
 
 -- all rows, in order, with which the roster keeps H1 to H4 and the nurse's frozen days
 abbrev pub rows_by_first_four : Meaning → ℕ → Rows → ℕ → List Row
 rows_by_first_four c from r n =
-    filter (λ row. is_none_of (first_four_faults c (with_row r n row)) && keeps_frozen_days c from r n row) (all_rows (all_choices c) (day_count c))
+    filter (λ row. is_none_of (first_four_faults c (with_row r n row)) && keeps_frozen_days c from r n row)
+    (all_rows (all_choices c) (day_count c))

@@ -1,14 +1,14 @@
 -- The order of rows: by the first day on which they differ, and on that day by the order of the choices.
 use Rattle.std.specs.Prelude.{◌≡◌, List, ◌∷◌, ◌++◌}
 
--- x stands before y among these items
+-- x comes before y in this list
 pub record StandsBefore {A : Type 0} (items : List A) (x y : A) : Type 0 where
   pub front : List A
   pub between : List A
   pub back : List A
   pub split : items ≡ front ++ x ∷ (between ++ y ∷ back)
 
--- up to some day a and b are the same, and then a has the earlier item
+-- a and b are equal up to some day, and on that day a has the earlier item
 pub record IsEarlier {A : Type 0} (items : List A) (a b : List A) : Type 0 where
   pub same : List A
   pub item_of_a : A

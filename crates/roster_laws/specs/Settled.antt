@@ -1,4 +1,4 @@
--- Where steps add nothing, and where a round changes something.
+-- Steps that change nothing, and rounds that change something.
 use Rattle.std.specs.Prelude.{◌≡◌, ℕ, ◌≤◌, true, false, All}
 use Rattle.roster_instance.specs.Meaning.{Meaning}
 use Rattle.roster_instance.specs.Rosters.{Rows}
@@ -14,14 +14,14 @@ ChangesNothing c best r n = step c best r n ≡ r
 abbrev pub HasBestRow : Meaning → ℕ → Rows → ℕ → Type 0
 HasBestRow c from r n = All (λ row. penalty c r ≤ penalty_with c r n row) (allowed_rows c from r n)
 
--- a run that is settled at this roster
+-- a run that is settled with this roster
 abbrev pub settled_at : Rows → Run
 settled_at last = record { roster = last; is_settled = true }
 
--- a run of best rows, where the days before week `from` are frozen
+-- a run of best rows with the days before week `from` frozen
 abbrev pub best_run : Meaning → (from rounds : ℕ) → Rows → Run
 best_run c from rounds r = run c (best_row c from) rounds r
 
--- a round leads from one roster to another
+-- a round changes the first roster into the second, which differs from it
 abbrev pub RoundChanges : Meaning → BestRows → (before after : Rows) → Type 0
 RoundChanges c best before after = (after ≡ round c best before) × (same_rows after before ≡ false)

@@ -1,4 +1,4 @@
--- The staffing of a day, by how many nurses work each shift with each skill.
+-- The staffing of a day, by the cover of each shift and skill.
 use Rattle.std.specs.Prelude.{◌≡◌, ℕ, ◌+◌, ◌-◌, Bool, not, nat_lt}
 use Rattle.roster_instance.specs.declared.choice.Choice.{Choice}
 use Rattle.roster_instance.specs.declared.choice.Choice.TheVariants.{Work}
@@ -8,19 +8,22 @@ use Rattle.roster_instance.specs.Choices.{same_choice}
 use Rattle.roster_instance.specs.Counting.{all_below, one_if, sum_below}
 use Rattle.roster_instance.specs.Meaning.{Meaning, minimum, shift_at, shift_count, skill_at, skill_count}
 
--- one nurse more, with this choice
+-- the cover with one more nurse, who has this choice
 abbrev pub with_choice : (ℕ → ℕ → ℕ) → Choice → ℕ → ℕ → ℕ
 with_choice have choice s k = have s k + one_if (same_choice choice (Work (shift_at s) (skill_at k)))
 
--- no minimum of the day is missed
+-- each minimum of the day is met
 abbrev pub meets : Meaning → ℕ → (ℕ → ℕ → ℕ) → Bool
-meets c d have = all_below (shift_count c) (λ s. all_below (skill_count c) (λ k. not (nat_lt (have s k) (minimum c d s k))))
+meets c d have =
+    all_below (shift_count c)
+    (λ s. all_below (skill_count c) (λ k. not (nat_lt (have s k) (minimum c d s k))))
 
--- how many nurses are lacking to what is wanted
-abbrev pub lacking : Meaning → (want have : ℕ → ℕ → ℕ) → ℕ
-lacking c want have = sum_below (shift_count c) (λ s. sum_below (skill_count c) (λ k. want s k - have s k))
+-- by how many nurses a day is short of the wanted numbers
+abbrev pub shortfall : Meaning → (want have : ℕ → ℕ → ℕ) → ℕ
+shortfall c want have = sum_below (shift_count c) (λ s. sum_below (skill_count c) (λ k. want s k - have s k))
 
--- a nurse more who works there takes one off what is lacking, unless as many work there as are wanted
+-- one more nurse in a slot makes the day short by one less, unless as many work there as are wanted
 abbrev pub WorkTakesOneOff : Meaning → (want have : ℕ → ℕ → ℕ) → Shift → Skill → Type 0
 WorkTakesOneOff c want have shift skill =
-    lacking c want (with_choice have (Work shift skill)) + one_if (nat_lt (have shift.0 skill.0) (want shift.0 skill.0)) ≡ lacking c want have
+    shortfall c want (with_choice have (Work shift skill))
+    + one_if (nat_lt (have shift.0 skill.0) (want shift.0 skill.0)) ≡ shortfall c want have

@@ -9,8 +9,9 @@ ghost use Rattle.roster_rules.specs.AllowedRows.{allowed_rows};
 ghost use Rattle.roster_rules.specs.HardRules.{hard_faults};
 ghost use Rattle.roster_laws.specs.Absences.{ListsNoAbsences, NobodyIsAbsent, first_four_faults, rows_by_first_four};
 
-/// A bundle without the section of absences means a case in which nobody is absent. There the hard rules are H1 to H4 alone: their
-/// breaches are all that a roster has, and a nurse's allowed rows are those with which the roster keeps them and the frozen days.
+/// A bundle without the section of absences means a case in which nobody is absent. The hard rules are then
+/// H1 to H4: a roster has no other breaches, and a nurse's allowed rows are those with which the roster keeps
+/// H1 to H4 and that keep the frozen days.
 pub fn absences_are_none()
     ensures nobody { (source : List ℕ) (b : Bundle) → ListsNoAbsences b →
         NobodyIsAbsent (meaning_of source b) }

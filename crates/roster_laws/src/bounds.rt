@@ -1,4 +1,4 @@
-//! How great penalties can be.
+//! A bound for penalties.
 
 ghost use Rattle.std.specs.Prelude.{◌≡◌, ◌<◌, ◌≤◌, true};
 ghost use Rattle.roster_instance.specs.Limits.{most_nurses};
@@ -6,11 +6,11 @@ ghost use Rattle.roster_instance.specs.Meaning.{Meaning, nurse_count};
 ghost use Rattle.roster_instance.specs.Rosters.{Rows, fits_case};
 ghost use Rattle.roster_instance.specs.Small.{IsSmall};
 ghost use Rattle.roster_rules.specs.Penalties.{penalty};
-ghost use Rattle.roster_rules.specs.Room.{most_penalty, penalty_room};
+ghost use Rattle.roster_rules.specs.PenaltyBounds.{most_penalty, penalty_limit};
 
 /// In a case within the limits no roster costs more than 7,317,767,120 points, which is below 2^33.
 pub fn penalties_are_low()
     ensures { (c : Meaning) → IsSmall c → nurse_count c ≤ most_nurses
         → (r : Rows) → fits_case c r ≡ true
-        → (penalty c r ≤ most_penalty) × (penalty c r < penalty_room) }
+        → (penalty c r ≤ most_penalty) × (penalty c r < penalty_limit) }
 {}

@@ -8,8 +8,9 @@ ghost use Rattle.roster_instance.specs.Rosters.{Rows};
 ghost use Rattle.roster_rules.specs.AllowedRows.{allowed_rows, is_frozen};
 ghost use Rattle.roster_laws.specs.FixedDays.{ListsNoFixedDays, NothingIsFixed, rows_by_weeks};
 
-/// A bundle without the section of fixed days means a case in which no day of a nurse is fixed. There the frozen days are those of the
-/// weeks before week `from`, for all nurses, and a nurse's allowed rows are those that keep the hard rules and these days.
+/// A bundle without the section of fixed days means a case in which no day of a nurse is fixed. The frozen
+/// days are then those of the weeks before week `from`, for all nurses, and a nurse's allowed rows are those
+/// that keep the hard rules and these days.
 pub fn fixed_days_are_none()
     ensures nothing { (source : List ℕ) (b : Bundle) → ListsNoFixedDays b →
         NothingIsFixed (meaning_of source b) }

@@ -1,4 +1,5 @@
-//! Runs of the improver and their logs. Where a law says nothing of the best rows, it holds for each way to choose them.
+//! Runs of the improver and their logs. A law that doesn't mention the best rows holds for every way to
+//! choose them.
 
 ghost use Rattle.std.specs.Prelude.{◌≡◌, ℕ, ◌+◌, ◌*◌, ◌<◌, ◌≤◌, ◌%◌, ◌⊎◌, ◌↔◌, suc, nat_lt, not, true, false, All, AllPairs};
 ghost use Rattle.roster_rules.specs.HardRules.{keeps_hard};
@@ -11,13 +12,13 @@ ghost use Rattle.roster_laws.specs.FrozenDays.{FrozenDaysStay};
 ghost use Rattle.roster_laws.specs.Logs.{Descends, EachKeeps, EndKeeps, EndsWith, ending, end_of};
 ghost use Rattle.roster_laws.specs.Settled.{ChangesNothing, HasBestRow, RoundChanges, best_run};
 
-/// Two rosters pass the test for the same rows just where they are one.
+/// Two rosters pass the test for the same rows exactly if they are equal.
 pub fn same_rows_are_equal()
     ensures { (a b : Rows) → (same_rows a b ≡ true) ↔ (a ≡ b) }
 {}
 
-/// A step puts the best row in where that is strictly cheaper, and else changes nothing. So no allowed row is cheaper than the
-/// roster after it.
+/// A step puts the best row in if that is strictly cheaper, and otherwise changes nothing. So no allowed row
+/// is cheaper than the roster after it.
 pub fn steps_put_the_best_row_in()
     ensures cheaper { (c : Meaning) (from : ℕ) (r : Rows) (n : ℕ) (row : Row) →
         IsBestRow c from r n row → penalty_with c r n row < penalty c r →
@@ -30,8 +31,8 @@ pub fn steps_put_the_best_row_in()
         (allowed_rows c from r n) }
 {}
 
-/// The log ends as the run does, with the run's roster. It has as many rounds as were allowed at most, and just as many where
-/// the run is stopped.
+/// The log ends as the run does, with the run's roster. It has at most as many rounds as were allowed, and
+/// exactly as many if the run is stopped.
 pub fn log_ends_with_the_run()
     ensures last { (c : Meaning) (best : BestRows) (rounds : ℕ) (r : Rows) →
         EndsWith (log_of c best rounds r)
@@ -42,7 +43,7 @@ pub fn log_ends_with_the_run()
         (run c best rounds r).is_settled ≡ false → (end_of c best rounds r).rounds ≡ rounds }
 {}
 
-/// Where a run is settled, no step and no round changes anything, and no allowed row of a nurse is cheaper.
+/// If a run is settled, no step and no round changes anything, and no allowed row of a nurse is cheaper.
 pub fn settled_stays()
     ensures steps { (c : Meaning) (best : BestRows) (rounds : ℕ) (r : Rows) →
         (run c best rounds r).is_settled ≡ true → (n : ℕ) → n < nurse_count c →
@@ -56,14 +57,15 @@ pub fn settled_stays()
 {}
 
 /// A run that is stopped changed something in its last round.
-pub fn last_round_tells()
+pub fn last_round_decides()
     ensures { (c : Meaning) (best : BestRows) (k : ℕ) (r : Rows) →
         (run c best (suc k) r).is_settled ≡ false →
         RoundChanges c best (run c best k r).roster (run c best (suc k) r).roster }
 {}
 
-/// Each penalty is a multiple of 5, as the weights are, unless a roster is kept at a number of points that isn't. So a step that
-/// changes the roster makes it cheaper by 5 at least, or by 1, and so many times the changes are at most the fall.
+/// Each penalty is a multiple of its unit. The unit is 5, since each weight is a multiple of 5, or 1 if a
+/// roster is kept at a number of points that isn't one. So a step that changes the roster makes it cheaper by
+/// at least the unit, and the unit times the number of changes is at most the fall of the penalty.
 pub fn changes_are_few()
     ensures multiples { (c : Meaning) (r : Rows) → penalty c r % penalty_unit c ≡ 0 }
     ensures unit { (c : Meaning) → (penalty_unit c ≡ 5) ⊎ (penalty_unit c ≡ 1) }
@@ -80,14 +82,15 @@ pub fn changes_are_few()
         penalty c r < penalty_unit c * rounds → (run c best rounds r).is_settled ≡ true }
 {}
 
-/// Along the log no penalty is above an earlier one, and that of a change is below each earlier one by a unit at
-/// least.
+/// Along the log no penalty is above an earlier one, and that of a change is below each earlier one by at
+/// least the unit.
 pub fn penalty_never_rises()
     ensures { (c : Meaning) (best : BestRows) (rounds : ℕ) (r : Rows) →
         AllPairs (Descends c) (log_of c best rounds r) }
 {}
 
-/// From a roster that fits and keeps the hard rules, a run of best rows and each line of its log come to such rosters alone.
+/// If a roster fits and keeps the hard rules, so do the rosters after a run of best rows and at each line of
+/// its log.
 pub fn runs_keep_the_hard_rules()
     ensures log { (c : Meaning) (from rounds : ℕ) (r : Rows) → fits_case c r ≡ true →
         keeps_hard c r ≡ true → EachKeeps c (log_of c (best_row c from) rounds r) }
@@ -95,7 +98,8 @@ pub fn runs_keep_the_hard_rules()
         keeps_hard c r ≡ true → EndKeeps c (run c (best_row c from) rounds r) }
 {}
 
-/// A best row put in, a step, a run of best rows and each line of its log leave each frozen day of each nurse as it was before.
+/// A best row that is put in, a step, a run of best rows and each line of its log leave every frozen day of
+/// every nurse as it was.
 pub fn frozen_days_stay()
     ensures best { (c : Meaning) (from : ℕ) (r : Rows) (n : ℕ) (row : Row) →
         IsBestRow c from r n row → FrozenDaysStay c from r (with_row r n row) }
@@ -107,7 +111,7 @@ pub fn frozen_days_stay()
         FrozenDaysStay c from r (run c (best_row c from) rounds r).roster }
 {}
 
-/// Where all weeks are frozen, a step and a run change nothing.
+/// If all weeks are frozen, a step and a run change nothing.
 pub fn frozen_weeks_stay()
     ensures step { (c : Meaning) (from : ℕ) (r : Rows) → fits_case c r ≡ true →
         week_count c ≤ from → (n : ℕ) → step c (best_row c from) r n ≡ r }

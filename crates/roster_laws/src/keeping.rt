@@ -8,8 +8,8 @@ ghost use Rattle.roster_laws.specs.Kept.{changed_days};
 ghost use Rattle.roster_rules.specs.HardRules.{hard_faults};
 ghost use Rattle.roster_rules.specs.Penalties.{costs_of, off_request_cost_on, penalty, request_cost_on, wish_cost_on};
 
-/// A roster that is kept adds so many points for each day of a nurse that is another, to the penalty alone: the hard rules stay. At no
-/// points all is as where none is kept.
+/// A roster that is kept adds its points for each day of a nurse that differs from it. It changes only the
+/// penalty: the hard rules stay. At 0 points everything is as if no roster were kept.
 pub fn kept_roster_costs_its_changes()
     ensures changes { (c : Meaning) (rows : Rows) (keep : ℕ) → c.keep ≡ 0 → (r : Rows) →
         penalty (keeping c rows keep) r ≡ penalty c r + keep * changed_days c rows r }

@@ -11,7 +11,7 @@ ghost use Rattle.roster_rules.specs.AllowedRows.{allowed_rows, best_row, keeps_f
 ghost use Rattle.roster_laws.specs.FixedDays.{NothingIsFixed};
 ghost use Rattle.roster_laws.specs.RowOrder.{IsEarlier};
 
-/// All rows are just those of the case, each once, and in their order.
+/// The list of all rows has exactly the rows of the case, each once, in their order.
 pub fn all_rows_are_the_rows_of_the_case()
     ensures members { (c : Meaning) (row : Row) →
         Contains (all_rows (all_choices c) (day_count c)) row ↔ (is_row_of c row ≡ true) }
@@ -21,9 +21,10 @@ pub fn all_rows_are_the_rows_of_the_case()
         (all_rows (all_choices c) (day_count c)) }
 {}
 
-/// The allowed rows of a nurse from a week on are exactly the rows of the case with which the roster keeps the hard rules and the
-/// nurse's frozen days. The present row is one where the roster keeps the hard rules, so that there is a best row. From week 0 on
-/// no day is frozen, where none is fixed: they are all rows with which the roster keeps the hard rules.
+/// The allowed rows of a nurse from a week on are exactly the rows of the case with which the roster keeps
+/// the hard rules and that keep the nurse's frozen days. If the roster keeps the hard rules, the present row
+/// is one of them, so there is a best row. From week 0 on, with no fixed days, no day is frozen, and the
+/// allowed rows are all rows with which the roster keeps the hard rules.
 pub fn allowed_rows_keep_the_hard_rules()
     ensures members { (c : Meaning) (from : ℕ) (r : Rows) (n : ℕ) (row : Row) →
         Contains (allowed_rows c from r n) row ↔

@@ -1,4 +1,4 @@
-//! Why a log takes no more.
+//! Why a log stops.
 
 use roster_text::WriteFault;
 use thiserror::Error;
@@ -6,7 +6,7 @@ use thiserror::Error;
 /// Why a run stopped before its end.
 #[derive(Clone, Copy, Debug, PartialEq, Eq, Error)]
 pub enum LogFault {
-    /// The log took just its first `sent` bytes, and then failed.
+    /// The log took exactly its first `sent` bytes, and then failed.
     #[error("log failed after {sent} bytes")]
     LogFailed { sent: usize },
 }

@@ -1,4 +1,4 @@
-//! The lines of a run's log, and the fault of a log that takes no more of it.
+//! The lines of a run's log, and the fault of a log that can't be written.
 #![tactic(auto)]
 
 mod fault;

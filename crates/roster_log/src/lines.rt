@@ -1,4 +1,5 @@
-//! The lines of a run's log. Each function takes how many bytes of the log were sent before, and returns how many are sent then.
+//! The lines of a run's log. Each function takes the number of bytes of the log that were sent before it, and
+//! returns the number sent after it.
 
 ghost use Rattle.std.specs.Prelude.{◌++◌, IfErr, IfOk, codes, decimal};
 ghost use Rattle.roster_text.specs.Io.{BreaksIn, Sends};
@@ -8,8 +9,8 @@ use roster_instance::Case;
 use roster_text::{Piece, Watch, WriteFault, send_pieces};
 use std::io::Write;
 
-/// The first line of a run of this case: what the given roster costs, or another number. Where the case keeps a roster, a line of its
-/// own before it says at how many points.
+/// The first line of a run of this case: the penalty of the given roster, or another number. If the case
+/// keeps a roster, a line before it gives the points for each changed day.
 pub fn log_start<W: Write>(
     log: &mut Watch<W>,
     sent: usize,
@@ -88,7 +89,7 @@ pub fn log_change<W: Write>(
     )
 }
 
-/// The line of a round that is done.
+/// The line at the end of a round.
 pub fn log_round<W: Write>(
     log: &mut Watch<W>,
     sent: usize,

@@ -15,11 +15,11 @@ use Rattle.roster_offers.specs.declared.offer.Offer.{Offer}
 use Rattle.roster_offers.specs.Offers.{cheaper_offer, cheapest_by_shift, offer_at, offers_among, same_shift, with_skills}
 use Rattle.roster_offers.proofs.ByShift.{by_shift_apart, by_shift_two, same_self}
 
--- to be off, and the choices of the first shifts
+-- a day off, and the choices of the first shifts
 abbrev pub of_shifts : Meaning → ℕ → List Choice
 of_shifts c shifts = Off ∷ flat_map (λ s. with_skills s (skill_count c)) (range_with_len 0 shifts)
 
--- what is open is offered where the nurse may take it, and nothing where not
+-- what is open is offered if the nurse may take it, and nothing if not
 pub if_taken : (may is_open : Bool) (x : Offer) (o : Option Offer) → may ≡ true → o ≡ (if is_open then Some x else None) → o ≡ (if may && is_open then Some x else None)
 if_taken may is_open x o so is = is ∙ ap (λ b. if b && is_open then Some x else None) (sym so)
 
@@ -55,7 +55,7 @@ module _ (c : Meaning) (keep : Choice → Bool) (offer : Choice → Offer) where
       let more : with_skills s (k + 1) ≡ with_skills s k ++ x ∷ [] = ap (map (λ j. Work (shift_at s) (skill_at j))) (range_with_len_more k) ∙ map-append (λ j. Work (shift_at s) (skill_at j)) (range_with_len 0 k) (k ∷ []) in
       ap among more ∙ offers_both (with_skills s k) (x ∷ []) ∙ ap (λ os. among (with_skills s k) ++ os) (offers_one x)
 
-  -- one that isn't offered
+  -- a choice that isn't offered
   skill_not : (s k : ℕ) → keep (Work (shift_at s) (skill_at k)) ≡ false → among (with_skills s (k + 1)) ≡ among (with_skills s k)
   skill_not s k not_so =
       skill_more s k
@@ -90,7 +90,7 @@ module _ (c : Meaning) (keep : Choice → Bool) (price : ℕ → Choice → ℕ)
   abbrev those : List Choice → List Offer
   those = offers_among keep at
 
-  -- what holds of choices holds of what is offered of them
+  -- what holds of choices holds of the offers for them
   all_those : (P : Choice → Type 0) (xs : List Choice) → All P xs → All (λ o. P o.choice) (those xs)
   all_those P [] all = All-nil (λ o. P o.choice)
   all_those P (x ∷ xs) all = go (keep x) (all_those P xs (All-tail P x xs all))

@@ -1,4 +1,5 @@
--- Whatever is offered at whatever prices: the first of the cheapest rows is the one that the search from state to state gives.
+-- Whatever is offered at whatever prices: the first of the cheapest rows is the one that the search from
+-- state to state gives.
 use Rattle.std.proofs.Common.{◌≡◌, ◌∙◌, ◌+◌, ◌<◌, ℕ, Bool, true, false, ap, arith, refl, sym, List, [], ◌∷◌, Contains, filter, length, Option, Some, None, IsSome, if◌then◌else◌}
 use Rattle.std.specs.Prelude.{option_map}
 use Rattle.roster_instance.specs.declared.choice.Choice.{Choice}
@@ -9,16 +10,16 @@ use Rattle.roster_instance.specs.Choices.{all_choices, all_rows}
 use Rattle.roster_instance.specs.Meaning.{Meaning, day_count}
 use Rattle.roster_rules.specs.Prefix.{due, summary_of}
 use Rattle.roster_instance.specs.Rosters.{Row}
-use Rattle.roster_state.specs.Step.{end_cost_of}
+use Rattle.roster_state.specs.Transition.{end_cost_of}
 use Rattle.roster_offers.specs.Cheapest.{Priced, cheapest, plus, raised, with_cost}
 use Rattle.roster_offers.specs.ByStates.{cost_from, rows_from}
-use Rattle.roster_offers.specs.Offers.{best_of_offers, cheapest_by_shift, choices_of, offer_at, offer_step, offered_row_by, offered_rows, offers_by, row_cost_at}
+use Rattle.roster_offers.specs.Offers.{best_of_offers, cheapest_by_shift, choices_of, offer_at, offer_transition, offered_row_by, offered_rows, offers_by, row_cost_at}
 use Rattle.roster_offers.specs.Lists.{best_over}
 use Rattle.roster_offers.specs.declared.offer.Offer.{Offer}
 use Rattle.roster_offers.proofs.Cheapest.{cheapest-first_least, cheapest_raised, cost-raised, cost_or, plus_twice, raised_twice, thing_or}
 use Rattle.roster_offers.proofs.ByShift.{best_by_shift}
 use Rattle.roster_offers.proofs.RowsByStates.{best_of_kept, cheapest_row, rows-all_rows, rows_agree}
-use Rattle.roster_offers.proofs.RowCosts.{choice_step, costs_by_states, owed}
+use Rattle.roster_offers.proofs.RowCosts.{choice_transition, costs_by_states, owed}
 
 plus_where : (b : Bool) (k a w : ℕ) → w ≡ k + a → (if b then Some w else None) ≡ plus k (if b then Some a else None)
 plus_where true k a w e = ap Some e
@@ -30,7 +31,7 @@ module _
     (kept : (row : Row) → length row ≡ day_count c → keep row ≡ offered_row_by c n offered row (length row))
     (costs : (row : Row) → length row ≡ day_count c → cost row ≡ before + row_cost_at c n price row) where
   abbrev along : Row → Option ℕ
-  along = cost_from (choice_step c n offered price) (end_cost_of c n) 0 (summary_of c n [])
+  along = cost_from (choice_transition c n offered price) (end_cost_of c n) 0 (summary_of c n [])
 
   abbrev base : ℕ
   base = before + due c n []
@@ -42,7 +43,7 @@ module _
   nothing_owed : owed c n offered price [] ≡ due c n []
   nothing_owed = omega arith
 
-  -- the cost of a row that is kept is what it costs from state to state, on top of that
+  -- the cost of a row that is kept is what it costs from state to state, plus what the start owes
   row_agrees : (row : Row) → length row ≡ day_count c → cost_if_kept row ≡ plus base (along row)
   row_agrees row days =
       (λ i. if kept row days i then Some (cost row) else None)
@@ -58,7 +59,7 @@ module _
       ∙ ap (cheapest (λ row. with_cost row (cost_if_kept row))) (rows-all_rows (all_choices c) D 0)
       ∙ rows_agree items D 0 (λ row. with_cost row (cost_if_kept row)) (λ row. raised base (λ own. own) (with_cost row (along row))) (λ row days. ap (with_cost row) (row_agrees row days) ∙ cost-raised base (λ own. own) row (along row))
       ∙ cheapest_raised base (λ own. own) (λ row. with_cost row (along row)) (rows_from items D 0)
-      ∙ ap (raised base (λ own. own)) (cheapest_row items (choice_step c n offered price) (end_cost_of c n) D 0 (summary_of c n []) ∙ best_of_kept offered (offer_at price) (λ offer. offer.choice) (λ d x. refl) items (offer_step c n) (end_cost_of c n) D 0 (summary_of c n []))
+      ∙ ap (raised base (λ own. own)) (cheapest_row items (choice_transition c n offered price) (end_cost_of c n) D 0 (summary_of c n []) ∙ best_of_kept offered (offer_at price) (λ offer. offer.choice) (λ d x. refl) items (offer_transition c n) (end_cost_of c n) D 0 (summary_of c n []))
       ∙ raised_twice base 0 (λ own. own) choices_of (best_of_offers c n (offers_by c offered price) D 0 (summary_of c n []))
       ∙ ap (λ k. raised k choices_of (best_of_offers c n (offers_by c offered price) D 0 (summary_of c n []))) no_more
     where
@@ -104,7 +105,7 @@ module _ (c : Meaning) (n : ℕ) (offered : ℕ → Choice → Bool) (price : �
     pub offered_cost : cost (choices_of offers) ≡ due c n [] + k
     offered_cost = both.1
 
-  -- ---- there is one where a row is offered
+  -- ---- there is one if a row is offered
 
   some_is : (o : Option Row) (p : Priced (List Offer)) → option_map with_its_cost o ≡ raised (due c n []) choices_of p → IsSome o → IsSome p
   some_is None p e some = elim (true≢false (sym some)) [ ]

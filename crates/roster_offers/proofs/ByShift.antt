@@ -14,11 +14,11 @@ use Rattle.roster_instance.specs.Meaning.{Meaning, shift_at, shift_count, skill_
 use Rattle.roster_rules.specs.Prefix.{Summary}
 use Rattle.roster_instance.specs.Rosters.{Rows}
 use Rattle.roster_laws.specs.OneRow.{is_offered, price}
-use Rattle.roster_state.specs.Step.{step_of}
+use Rattle.roster_state.specs.Transition.{transition_of}
 use Rattle.roster_offers.specs.declared.offer.Offer.{Offer}
 use Rattle.roster_offers.specs.Cheapest.{Priced, cheaper, cheapest, raised}
 use Rattle.roster_offers.specs.ByStates.{best_after}
-use Rattle.roster_offers.specs.Offers.{best_of_offers, cheaper_offer, cheapest_by_shift, dearer, in_front, offer_at, offer_step, offers_by, same_shift, shift_offers}
+use Rattle.roster_offers.specs.Offers.{best_of_offers, cheaper_offer, cheapest_by_shift, dearer, in_front, offer_at, offer_transition, offers_by, same_shift, shift_offers}
 use Rattle.roster_offers.proofs.Cheapest.{grouped, keeps_first, takes_second}
 
 -- ---- the same shift
@@ -52,7 +52,7 @@ front_second x y ys e h = rw (e, lt-ltb y.price x.price h)
 
 -- ---- the cheapest of all is the cheapest of these
 
--- where of two offers for one shift the cheaper is the better one, of equally cheap ones the first
+-- if of two offers for one shift the cheaper is the better one, of equally cheap ones the first
 module _ {X : Type 0} (f : Offer → Priced X) (first : (x y : Offer) → shift x ≡ shift y → x.price ≤ y.price → cheaper (f x) (f y) ≡ f x) (second : (x y : Offer) → shift x ≡ shift y → y.price < x.price → cheaper (f x) (f y) ≡ f y) where
   cheapest_front : (x : Offer) (ys : List Offer) → cheapest f (in_front x ys) ≡ cheaper (f x) (cheapest f ys)
   cheapest_front x [] = refl
@@ -78,9 +78,9 @@ module _ {X : Type 0} (f : Offer → Priced X) (first : (x y : Offer) → shift 
 
 module _ (x y : Offer) (rest : Summary → Priced (List Offer)) where
   abbrev by : Offer → Option (Summary × ℕ) → Priced (List Offer)
-  by o step = best_after o (dearer o.price step) rest
+  by o transition = best_after o (dearer o.price transition) rest
 
-  cheaper_first : x.price ≤ y.price → (step : Option (Summary × ℕ)) → cheaper (by x step) (by y step) ≡ by x step
+  cheaper_first : x.price ≤ y.price → (transition : Option (Summary × ℕ)) → cheaper (by x transition) (by y transition) ≡ by x transition
   cheaper_first h None = refl
   cheaper_first h (Some t) = go (rest t.0)
     where
@@ -88,7 +88,7 @@ module _ (x y : Offer) (rest : Summary → Priced (List Offer)) where
       go None = refl
       go (Some q) = keeps_first (x.price + t.1 + q.0, x ∷ q.1) (y.price + t.1 + q.0, y ∷ q.1) (omega (arith, h))
 
-  cheaper_second : y.price < x.price → (step : Option (Summary × ℕ)) → cheaper (by x step) (by y step) ≡ by y step
+  cheaper_second : y.price < x.price → (transition : Option (Summary × ℕ)) → cheaper (by x transition) (by y transition) ≡ by y transition
   cheaper_second h None = refl
   cheaper_second h (Some t) = go (rest t.0)
     where
@@ -97,20 +97,20 @@ module _ (x y : Offer) (rest : Summary → Priced (List Offer)) where
       go (Some q) = takes_second (x.price + t.1 + q.0, x ∷ q.1) (y.price + t.1 + q.0, y ∷ q.1) (omega (arith, h))
 
 module _ (c : Meaning) (n : ℕ) where
-  -- a step depends on the offer's shift and price alone
-  one_day : (d : ℕ) (s : Summary) (rest : Summary → Priced (List Offer)) (xs : List Offer) → cheapest (λ x. best_after x (offer_step c n d s x) rest) (cheapest_by_shift xs) ≡ cheapest (λ x. best_after x (offer_step c n d s x) rest) xs
+  -- a transition depends on the offer's shift and price alone
+  one_day : (d : ℕ) (s : Summary) (rest : Summary → Priced (List Offer)) (xs : List Offer) → cheapest (λ x. best_after x (offer_transition c n d s x) rest) (cheapest_by_shift xs) ≡ cheapest (λ x. best_after x (offer_transition c n d s x) rest) xs
   one_day d s rest =
-      let step : Option Shift → Option (Summary × ℕ) = step_of c n d s in
-      let f : Offer → Priced (List Offer) = λ x. best_after x (offer_step c n d s x) rest in
+      let transition : Option Shift → Option (Summary × ℕ) = transition_of c n d s in
+      let f : Offer → Priced (List Offer) = λ x. best_after x (offer_transition c n d s x) rest in
       cheapest_same f
-      (λ x y e h. subst (λ (o : Option Shift). cheaper (f x) (best_after y (dearer y.price (step o)) rest) ≡ f x) e (cheaper_first x y rest h (step (shift x))))
-      (λ x y e h. subst (λ (o : Option Shift). cheaper (f x) (best_after y (dearer y.price (step o)) rest) ≡ best_after y (dearer y.price (step o)) rest) e (cheaper_second x y rest h (step (shift x))))
+      (λ x y e h. subst (λ (o : Option Shift). cheaper (f x) (best_after y (dearer y.price (transition o)) rest) ≡ f x) e (cheaper_first x y rest h (transition (shift x))))
+      (λ x y e h. subst (λ (o : Option Shift). cheaper (f x) (best_after y (dearer y.price (transition o)) rest) ≡ best_after y (dearer y.price (transition o)) rest) e (cheaper_second x y rest h (transition (shift x))))
 
   pub best_by_shift : (offers : ℕ → List Offer) (m d : ℕ) (s : Summary) → best_of_offers c n (λ day. cheapest_by_shift (offers day)) m d s ≡ best_of_offers c n offers m d s
   best_by_shift offers zero d s = refl
   best_by_shift offers (suc m) d s =
       one_day d s (best_of_offers c n (λ day. cheapest_by_shift (offers day)) m (suc d)) (offers d)
-      ∙ (λ i. cheapest (λ x. best_after x (offer_step c n d s x) (λ t. best_by_shift offers m (suc d) t i)) (offers d))
+      ∙ (λ i. cheapest (λ x. best_after x (offer_transition c n d s x) (λ t. best_by_shift offers m (suc d) t i)) (offers d))
 
 -- ---- each of these is one of all, and they are fewer
 
@@ -160,9 +160,10 @@ module _ (P : Offer → Type 0) where
 pub by_shift_among : (xs : List Offer) (x : Offer) → Contains (cheapest_by_shift xs) x → Contains xs x
 by_shift_among xs x = All-contains (Contains xs) (cheapest_by_shift xs) x (by_shift_all (Contains xs) xs (All-contains_itself xs))
 
--- ---- at most one for each shift, and one to be off
+-- ---- at most one for each shift, and one for the day off
 
--- a list that has grown by offers for one shift alone is longer by one at most, and then begins with this shift
+-- a list that has grown by offers for one shift alone is longer by at most one, and then begins with this
+-- shift
 Begins : Option Shift → List Offer → Type 0
 Begins s [] = ⊥
 Begins s (z ∷ zs) = shift z ≡ s
@@ -240,7 +241,7 @@ put_last [] x = x ∷ []
 put_last (z ∷ []) x = in_front z (x ∷ [])
 put_last (z ∷ y ∷ zs) x = z ∷ put_last (y ∷ zs) x
 
--- of three offers it is the same which two are compared first
+-- of three offers, the result doesn't depend on which two are compared first
 three : (y z x : Offer) → in_front y (in_front z (x ∷ [])) ≡ put_last (in_front y (z ∷ [])) x
 three y z x = go (alike y z) (alike z x) refl refl (cases_lt z.price y.price) (cases_lt x.price z.price)
   where
@@ -278,7 +279,7 @@ unfolding cheapest_by_shift
 by_shift_push [] x = refl
 by_shift_push (y ∷ xs) x = ap (in_front y) (by_shift_push xs x) ∙ front_last y (cheapest_by_shift xs) x
 
--- offers of a shift that none before them has
+-- offers of a shift that no offer before them has
 front_apart : (s : Option Shift) (x : Offer) (ys bs : List Offer) → same_shift (shift x) s ≡ false → All (λ y. shift y ≡ s) bs → in_front x (ys ++ bs) ≡ in_front x ys ++ bs
 front_apart s x [] [] e all = refl
 front_apart s x [] (b ∷ bs) e all = front_other x b bs (ap (same_shift (shift x)) (All-head (λ y. shift y ≡ s) b bs all) ∙ e)
@@ -335,13 +336,13 @@ by_shift_grows xs [] = omega (arith, ap (λ os. length (cheapest_by_shift os)) (
 by_shift_grows xs (y ∷ ys) =
     omega (arith, put_grows (cheapest_by_shift xs) y, ap length (by_shift_push xs y), by_shift_grows (xs ++ y ∷ []) ys, ap (λ os. length (cheapest_by_shift os)) (append_assoc xs (y ∷ []) ys))
 
--- the first offers have no more than all
+-- the first offers give no more than all
 first_few : (xs : List Offer) (k : ℕ) → length (cheapest_by_shift (take k xs)) ≤ length (cheapest_by_shift xs)
 first_few xs k = omega (arith, by_shift_grows (take k xs) (drop k xs), ap (λ os. length (cheapest_by_shift os)) (take-append-drop k xs))
 
 -- ---- the first offers and the next
 
--- nothing comes off a list that has nothing
+-- nothing comes off an empty list
 module _ (o : Option Offer) (none : o ≡ None) (old left : List Offer) (some : 0 < length old → IsSome o) (split : old ≡ left ++ option_to_list o) where
   all_off : old ≡ []
   all_off = go old some
@@ -353,35 +354,35 @@ module _ (o : Option Offer) (none : o ≡ None) (old left : List Offer) (some : 
   nothing_left : left ≡ []
   nothing_left = sym (append-nil left) ∙ ap (λ (p : Option Offer). left ++ option_to_list p) (sym none) ∙ sym split ∙ all_off
 
-  pub begun : (offers : List Offer) (place : ℕ) (d : Offer) (new : List Offer) → place < length offers → old ≡ cheapest_by_shift (take place offers) → new ≡ left ++ slice_index_or offers place d ∷ [] → new ≡ cheapest_by_shift (take (place + 1) offers)
-  begun offers place d new inside is pushed =
-      let x : Offer = slice_index_or offers place d in
+  pub begun : (offers : List Offer) (index : ℕ) (d : Offer) (new : List Offer) → index < length offers → old ≡ cheapest_by_shift (take index offers) → new ≡ left ++ slice_index_or offers index d ∷ [] → new ≡ cheapest_by_shift (take (index + 1) offers)
+  begun offers index d new inside is pushed =
+      let x : Offer = slice_index_or offers index d in
       pushed
       ∙ ap (λ os. os ++ x ∷ []) nothing_left
       ∙ ap (λ os. put_last os x) (sym all_off ∙ is)
-      ∙ sym (by_shift_push (take place offers) x)
-      ∙ ap cheapest_by_shift (sym (take_more offers place d inside))
+      ∙ sym (by_shift_push (take index offers) x)
+      ∙ ap cheapest_by_shift (sym (take_more offers index d inside))
 
 -- by the last that was kept of the offers before it
-module _ (offers : List Offer) (place : ℕ) (inside : place < length offers) (kept front : List Offer) (last : Offer) (is : kept ≡ cheapest_by_shift (take place offers)) (split : kept ≡ front ++ last ∷ []) where
-  pub one_room : length front + 1 ≤ length (cheapest_by_shift offers)
-  one_room = omega (arith, first_few offers place, ap length is, ap length split, length-append front (last ∷ []))
+module _ (offers : List Offer) (index : ℕ) (inside : index < length offers) (kept front : List Offer) (last : Offer) (is : kept ≡ cheapest_by_shift (take index offers)) (split : kept ≡ front ++ last ∷ []) where
+  pub one_fits : length front + 1 ≤ length (cheapest_by_shift offers)
+  one_fits = omega (arith, first_few offers index, ap length is, ap length split, length-append front (last ∷ []))
 
   module _ (d : Offer) where
     abbrev next : Offer
-    next = slice_index_or offers place d
+    next = slice_index_or offers index d
 
     abbrev first_more : List Offer
-    first_more = cheapest_by_shift (take (place + 1) offers)
+    first_more = cheapest_by_shift (take (index + 1) offers)
 
     compared : first_more ≡ front ++ in_front last (next ∷ [])
-    compared = ap cheapest_by_shift (take_more offers place d inside) ∙ by_shift_more (take place offers) front last next (sym is ∙ split)
+    compared = ap cheapest_by_shift (take_more offers index d inside) ∙ by_shift_more (take index offers) front last next (sym is ∙ split)
 
     both : alike last next ≡ false → first_more ≡ (front ++ last ∷ []) ++ next ∷ []
     both e = compared ∙ ap (λ os. front ++ os) (front_other last next [] e) ∙ sym (append_assoc front (last ∷ []) (next ∷ []))
 
-    pub two_room : alike last next ≡ false → length front + 2 ≤ length (cheapest_by_shift offers)
-    two_room e = omega (arith, first_few offers (place + 1), ap length (both e), length-append (front ++ last ∷ []) (next ∷ []), length-append front (last ∷ []))
+    pub two_fit : alike last next ≡ false → length front + 2 ≤ length (cheapest_by_shift offers)
+    two_fit e = omega (arith, first_few offers (index + 1), ap length (both e), length-append (front ++ last ∷ []) (next ∷ []), length-append front (last ∷ []))
 
     pub kept_both : alike last next ≡ false → (again new : List Offer) → again ≡ front ++ last ∷ [] → new ≡ again ++ next ∷ [] → new ≡ first_more
     kept_both e again new back pushed = pushed ∙ ap (λ os. os ++ next ∷ []) back ∙ sym (both e)

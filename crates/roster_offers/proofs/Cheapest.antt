@@ -60,7 +60,7 @@ pub cheapest_none : {Y X : Type 0} (ys : List Y) → cheapest {Y = Y} {X = X} (�
 cheapest_none [] = refl
 cheapest_none (y ∷ ys) = cheapest_none ys
 
--- of those that are kept, where the others aren't allowed
+-- of those that are kept, if the others aren't allowed
 pub cheapest_filter : {Y X : Type 0} (keep : Y → Bool) (f g : Y → Priced X) → ((y : Y) → keep y ≡ true → f y ≡ g y) → ((y : Y) → keep y ≡ false → g y ≡ None) → (ys : List Y) → cheapest f (filter keep ys) ≡ cheapest g ys
 cheapest_filter keep f g same none [] = refl
 cheapest_filter {Y} keep f g same none (y ∷ ys) = go (keep y) refl (cheapest_filter keep f g same none ys)
@@ -89,7 +89,7 @@ cheapest-first_least {X} cost keep (x ∷ xs) = ap (cheaper (with_cost x (if kee
     go true o e = two o ∙ ap (λ p. Some (cost (cheaper_of cost x p), cheaper_of cost x p)) (sym e)
     go false o e = ap (option_map (λ y. (cost y, y))) (sym e)
 
--- ---- so much dearer
+-- ---- raised costs
 
 raised_both : {Z X : Type 0} (k : ℕ) (g : Z → X) (p q : Priced Z) → cheaper (raised k g p) (raised k g q) ≡ raised k g (cheaper p q)
 raised_both k g None q = refl

@@ -1,4 +1,5 @@
--- The lists of offers of a search: they are read from a table, and where they agree, so do the best rows over them.
+-- The lists of offers of a search: they are read from a table, and if two tables agree, so do the best rows
+-- over them.
 use Rattle.std.proofs.Common.{◌≡◌, ◌∙◌, ◌+◌, ◌<◌, ◌≤◌, ℕ, zero, suc, ap, arith, refl, List, [], slice_index_or}
 use Rattle.std.proofs.lemmas.List.{get_or_default}
 use Rattle.arrayvec.specs.ArrayVec.{ArrayVec}
@@ -9,9 +10,9 @@ use Rattle.roster_offers.specs.declared.offer.Offer.{Offer}
 use Rattle.roster_offers.specs.ByStates.{best_after}
 use Rattle.roster_offers.specs.Cheapest.{cheapest}
 use Rattle.roster_offers.specs.Lists.{AreOffers, best_over, offers_on}
-use Rattle.roster_offers.specs.Offers.{best_of_offers, offer_step}
+use Rattle.roster_offers.specs.Offers.{best_of_offers, offer_transition}
 
--- to be off at no price, which stands where a list has ended
+-- a day off at no price: what is read past the end of a list
 abbrev pub no_offer : Offer
 no_offer = record { choice = Off; price = 0 }
 
@@ -29,7 +30,7 @@ best_of_same c n f g zero d s same = refl
 best_of_same c n f g (suc m) d s same =
     let here : f d ≡ g d = same d (omega arith) (omega arith) in
     let later : (t : Summary) → best_of_offers c n f m (suc d) t ≡ best_of_offers c n g m (suc d) t = λ t. best_of_same c n f g m (suc d) t (λ k low high. same k (omega (arith, low)) (omega (arith, high))) in
-    (λ i. cheapest (λ x. best_after x (offer_step c n d s x) (λ t. later t i)) (here i))
+    (λ i. cheapest (λ x. best_after x (offer_transition c n d s x) (λ t. later t i)) (here i))
 
 module _ (c : Meaning) (n : ℕ) (f g : ℕ → List Offer) (same : (day : ℕ) → day < day_count c → f day ≡ g day) where
   pub best_over_same : best_over c n f ≡ best_over c n g

@@ -1,4 +1,4 @@
--- The best row over a table of offers costs less than the label of no row.
+-- The best row over a table of offers costs less than what stands for no row.
 use Rattle.std.proofs.Common.{◌≡◌, ◌∙◌, ◌+◌, ◌*◌, ◌<◌, ◌≤◌, ◌⊎◌, ℕ, zero, suc, All, Bool, IsSome, List, Option, Some, None, [], ◌∷◌, ap, arith, false, if◌then◌else◌, inl, inr, length, nat_lt, refl, slice_index_or, subst, sym, true}
 use Rattle.std.specs.Prelude.{IfSome}
 use Rattle.std.proofs.lemmas.Bool.{true≢false}
@@ -15,16 +15,16 @@ use Rattle.roster_rules.specs.Penalties.{own_cost}
 use Rattle.roster_rules.specs.Prefix.{Summary, due, summary_of}
 use Rattle.roster_rules.proofs.Bounds.{both_run_costs-within, shift_run_cost-within, split_cost-within, totals_cost-within, weekends_cost-within}
 use Rattle.roster_rules.proofs.RunBounds.{sum_within}
-use Rattle.roster_state.specs.Room.{most_at_end, most_of_step}
-use Rattle.roster_state.specs.Step.{end_cost_of, next_of, step_cost, step_of}
-use Rattle.roster_state.proofs.StepBounds.{step_within}
+use Rattle.roster_state.specs.MostCosts.{most_at_end, most_of_transition}
+use Rattle.roster_state.specs.Transition.{end_cost_of, next_of, transition_cost, transition_of}
+use Rattle.roster_state.proofs.TransitionBounds.{transition_within}
 use Rattle.roster_offers.specs.declared.offer.Offer.{Offer}
-use Rattle.roster_offers.specs.ByStates.{Steps, best_after, best_from, cost_after, cost_from}
+use Rattle.roster_offers.specs.ByStates.{Transitions, best_after, best_from, cost_after, cost_from}
 use Rattle.roster_offers.specs.Cheapest.{Priced, cheaper, cheapest, plus, raised}
-use Rattle.roster_offers.specs.Offers.{best_of_offers, choices_of, dearer, offer_step, offered_row_by, row_cost_at, row_prices_by}
+use Rattle.roster_offers.specs.Offers.{best_of_offers, choices_of, dearer, offer_transition, offered_row_by, row_cost_at, row_prices_by}
 use Rattle.roster_offers.specs.Lists.{IsOfferOf, best_over, most_label, most_price, no_row}
 use Rattle.roster_offers.proofs.Cheapest.{cost_or, thing_or}
-use Rattle.roster_offers.proofs.RowCosts.{choice_step, costs_by_states, owed}
+use Rattle.roster_offers.proofs.RowCosts.{choice_transition, costs_by_states, owed}
 use Rattle.roster_offers.proofs.ListLaws.{no_offer}
 
 -- ---- a best row is a row of the days' items, and its cost is what it costs from state to state
@@ -45,19 +45,19 @@ one_of_all f P (y ∷ ys) best all is = elim (one_of_both (f y) (cheapest f ys) 
   | inr there ↦ one_of_all f P ys best (All-tail P y ys all) there
 ]
 
-module _ {S X : Type 0} (items : ℕ → List X) (step : Steps S X) (finish : S → ℕ) (P : X → Type 0) where
+module _ {S X : Type 0} (items : ℕ → List X) (transition : Transitions S X) (finish : S → ℕ) (P : X → Type 0) where
   record IsRow (m d : ℕ) (s : S) (cost : ℕ) (xs : List X) : Type 0 where
     days : length xs ≡ m
     each : All P xs
-    along : cost_from step finish d s xs ≡ Some cost
+    along : cost_from transition finish d s xs ≡ Some cost
 
-  begun : (m d : ℕ) (s : S) (x : X) (o : Option (S × ℕ)) (cost : ℕ) (xs : List X) → P x → step d s x ≡ o
-      → ((t : S) (k : ℕ) (ys : List X) → best_from items step finish m (suc d) t ≡ Some (k, ys) → IsRow m (suc d) t k ys)
-      → best_after x o (best_from items step finish m (suc d)) ≡ Some (cost, xs) → IsRow (suc m) d s cost xs
+  begun : (m d : ℕ) (s : S) (x : X) (o : Option (S × ℕ)) (cost : ℕ) (xs : List X) → P x → transition d s x ≡ o
+      → ((t : S) (k : ℕ) (ys : List X) → best_from items transition finish m (suc d) t ≡ Some (k, ys) → IsRow m (suc d) t k ys)
+      → best_after x o (best_from items transition finish m (suc d)) ≡ Some (cost, xs) → IsRow (suc m) d s cost xs
   begun m d s x None cost xs p is rest best = absurd cc
-  begun m d s x (Some t) cost xs p is rest best = go (best_from items step finish m (suc d) t.0) refl best
+  begun m d s x (Some t) cost xs p is rest best = go (best_from items transition finish m (suc d) t.0) refl best
     where
-      go : (o : Priced (List X)) → best_from items step finish m (suc d) t.0 ≡ o → raised t.1 (λ ys. x ∷ ys) o ≡ Some (cost, xs) → IsRow (suc m) d s cost xs
+      go : (o : Priced (List X)) → best_from items transition finish m (suc d) t.0 ≡ o → raised t.1 (λ ys. x ∷ ys) o ≡ Some (cost, xs) → IsRow (suc m) d s cost xs
       go None later e = absurd cc
       go (Some (k, ys)) later e =
           let row = rest t.0 k ys later in
@@ -66,17 +66,17 @@ module _ {S X : Type 0} (items : ℕ → List X) (step : Steps S X) (finish : S 
           subst (IsRow (suc m) d s cost) same (record {
             days = ap suc row.days;
             each = All-cons P x ys p row.each;
-            along = ap (λ o. cost_after o (λ u. cost_from step finish (suc d) u ys)) is ∙ ap (plus t.1) row.along ∙ ap Some total;
+            along = ap (λ o. cost_after o (λ u. cost_from transition finish (suc d) u ys)) is ∙ ap (plus t.1) row.along ∙ ap Some total;
           })
 
-  is_row : (m d : ℕ) (s : S) (cost : ℕ) (xs : List X) → ((k : ℕ) → d ≤ k → k < d + m → All P (items k)) → best_from items step finish m d s ≡ Some (cost, xs) → IsRow m d s cost xs
+  is_row : (m d : ℕ) (s : S) (cost : ℕ) (xs : List X) → ((k : ℕ) → d ≤ k → k < d + m → All P (items k)) → best_from items transition finish m d s ≡ Some (cost, xs) → IsRow m d s cost xs
   is_row zero d s cost xs all is =
       let total : finish s ≡ cost = ap (cost_or 0) is in
       let same : [] ≡ xs = ap (thing_or []) is in
       subst (IsRow zero d s cost) same (record { days = refl; each = All-nil P; along = ap Some total })
   is_row (suc m) d s cost xs all is =
-      let one = one_of_all (λ x. best_after x (step d s x) (best_from items step finish m (suc d))) P (items d) (cost, xs) (all d (omega arith) (omega arith)) is in
-      begun m d s one.0 (step d s one.0) cost xs one.1 refl (λ t k ys. is_row m (suc d) t k ys (λ j low high. all j (omega (arith, low)) (omega (arith, high)))) one.2
+      let one = one_of_all (λ x. best_after x (transition d s x) (best_from items transition finish m (suc d))) P (items d) (cost, xs) (all d (omega arith) (omega arith)) is in
+      begun m d s one.0 (transition d s one.0) cost xs one.1 refl (λ t k ys. is_row m (suc d) t k ys (λ j low high. all j (omega (arith, low)) (omega (arith, high)))) one.2
 
 -- ---- its cost is its prices and what the nurse's own rules cost along it
 
@@ -89,22 +89,22 @@ module _ (c : Meaning) (n : ℕ) (all : List Offer) where
   price_here d x = (slice_index_or all d no_offer).price
 
   by_choices : (offers : List Offer) (d : ℕ) (s : Summary) → ((k : ℕ) → k < length offers → slice_index_or all (d + k) no_offer ≡ slice_index_or offers k no_offer)
-      → cost_from (choice_step c n every price_here) (end_cost_of c n) d s (choices_of offers) ≡ cost_from (offer_step c n) (end_cost_of c n) d s offers
+      → cost_from (choice_transition c n every price_here) (end_cost_of c n) d s (choices_of offers) ≡ cost_from (offer_transition c n) (end_cost_of c n) d s offers
   by_choices [] d s same = refl
   by_choices (x ∷ xs) d s same =
       let here : slice_index_or all d no_offer ≡ x = ap (λ k. slice_index_or all k no_offer) (omega arith) ∙ same 0 (omega arith) in
-      let later : (t : Summary) → cost_from (choice_step c n every price_here) (end_cost_of c n) (suc d) t (choices_of xs) ≡ cost_from (offer_step c n) (end_cost_of c n) (suc d) t xs = λ t.
+      let later : (t : Summary) → cost_from (choice_transition c n every price_here) (end_cost_of c n) (suc d) t (choices_of xs) ≡ cost_from (offer_transition c n) (end_cost_of c n) (suc d) t xs = λ t.
       by_choices xs (suc d) t (λ k within. ap (λ j. slice_index_or all j no_offer) (omega arith) ∙ same (suc k) (omega (arith, within))) in
-      (λ i. cost_after (offer_step c n d s (record { choice = x.choice; price = (here i).price })) (λ t. later t i))
+      (λ i. cost_after (offer_transition c n d s (record { choice = x.choice; price = (here i).price })) (λ t. later t i))
 
 some_then : (b : Bool) (w k : ℕ) → (if b then Some w else None) ≡ Some k → w ≡ k
 some_then true w k e = ap (λ (o : Option ℕ). elim o [ Some m ↦ m | None ↦ 0 ]) e
 some_then false w k e = absurd cc
 
-pub row_cost : (c : Meaning) (n : ℕ) (offers : List Offer) (cost : ℕ) → cost_from (offer_step c n) (end_cost_of c n) 0 (summary_of c n []) offers ≡ Some cost → row_cost_at c n (price_here c n offers) (choices_of offers) ≡ due c n [] + cost
+pub row_cost : (c : Meaning) (n : ℕ) (offers : List Offer) (cost : ℕ) → cost_from (offer_transition c n) (end_cost_of c n) 0 (summary_of c n []) offers ≡ Some cost → row_cost_at c n (price_here c n offers) (choices_of offers) ≡ due c n [] + cost
 row_cost c n offers cost is =
     let row : Row = choices_of offers in
-    let same : cost_from (choice_step c n (every c n offers) (price_here c n offers)) (end_cost_of c n) 0 (summary_of c n []) row ≡ Some cost =
+    let same : cost_from (choice_transition c n (every c n offers) (price_here c n offers)) (end_cost_of c n) 0 (summary_of c n []) row ≡ Some cost =
     by_choices c n offers offers 0 (summary_of c n []) (λ k within. ap (λ j. slice_index_or offers j no_offer) (omega arith)) ∙ is in
     let nothing : owed c n (every c n offers) (price_here c n offers) [] ≡ due c n [] = omega arith in
     some_then (offered_row_by c n (every c n offers) row (length row)) (row_cost_at c n (price_here c n offers) row) (due c n [] + cost)
@@ -139,34 +139,34 @@ module _ (c : Meaning) (n : ℕ) (small : HasSmallNumbers c) (weeks : week_count
 
 -- ---- labels, whatever the state is
 
--- what so many days and the end cost at most
+-- the greatest cost of this number of days and of the end
 abbrev most_of : ℕ → ℕ
-most_of m = m * (most_price + most_of_step) + most_at_end
+most_of m = m * (most_price + most_of_transition) + most_at_end
 
-abbrev step_cost_of : Option (Summary × ℕ) → ℕ
-step_cost_of None = 0
-step_cost_of (Some t) = t.1
+abbrev transition_cost_of : Option (Summary × ℕ) → ℕ
+transition_cost_of None = 0
+transition_cost_of (Some t) = t.1
 
 module _ (c : Meaning) (small : HasSmallNumbers c) (n : ℕ) (offers : ℕ → List Offer) (of_case : (d : ℕ) → All (IsOfferOf c) (offers d)) where
-  step_is_low : (d : ℕ) (s : Summary) (shift : Option Shift) (t : Summary × ℕ) → step_of c n d s shift ≡ Some t → t.1 ≤ most_of_step
-  step_is_low d s shift t is = go (forbids c.successions s.last shift) is
+  transition_is_low : (d : ℕ) (s : Summary) (shift : Option Shift) (t : Summary × ℕ) → transition_of c n d s shift ≡ Some t → t.1 ≤ most_of_transition
+  transition_is_low d s shift t is = go (forbids c.successions s.last shift) is
     where
-      go : (b : Bool) → (if b then None else Some (next_of c n d s shift, step_cost c n d s shift)) ≡ Some t → t.1 ≤ most_of_step
+      go : (b : Bool) → (if b then None else Some (next_of c n d s shift, transition_cost c n d s shift)) ≡ Some t → t.1 ≤ most_of_transition
       go true e = absurd cc
-      go false e = let same : step_cost c n d s shift ≡ t.1 = ap step_cost_of e in omega (arith, same, step_within c n d s shift small)
+      go false e = let same : transition_cost c n d s shift ≡ t.1 = ap transition_cost_of e in omega (arith, same, transition_within c n d s shift small)
 
-  -- an offer, a step and what comes after them
+  -- an offer, a transition and what comes after them
   one_day : (m d : ℕ) (s : Summary) (x : Offer) (rest : Summary → Priced (List Offer)) (best : ℕ × List Offer) → IsOfferOf c x → ((t : Summary) → IfSome (rest t) (λ p. p.0 ≤ most_of m))
-      → best_after x (offer_step c n d s x) rest ≡ Some best → best.0 ≤ most_of (suc m)
-  one_day m d s x rest best of later is = go (step_of c n d s (shift_of x.choice)) refl is
+      → best_after x (offer_transition c n d s x) rest ≡ Some best → best.0 ≤ most_of (suc m)
+  one_day m d s x rest best of later is = go (transition_of c n d s (shift_of x.choice)) refl is
     where
-      after : (more : ℕ) (o : Priced (List Offer)) → more ≤ most_price + most_of_step → IfSome o (λ p. p.0 ≤ most_of m) → raised more (λ xs. x ∷ xs) o ≡ Some best → best.0 ≤ most_of (suc m)
+      after : (more : ℕ) (o : Priced (List Offer)) → more ≤ most_price + most_of_transition → IfSome o (λ p. p.0 ≤ most_of m) → raised more (λ xs. x ∷ xs) o ≡ Some best → best.0 ≤ most_of (suc m)
       after more None few low e = absurd cc
       after more (Some p) few low e = let total : more + p.0 ≡ best.0 = ap (cost_or 0) e in omega (arith, low, total, few)
 
-      go : (o : Option (Summary × ℕ)) → step_of c n d s (shift_of x.choice) ≡ o → best_after x (dearer x.price o) rest ≡ Some best → best.0 ≤ most_of (suc m)
+      go : (o : Option (Summary × ℕ)) → transition_of c n d s (shift_of x.choice) ≡ o → best_after x (dearer x.price o) rest ≡ Some best → best.0 ≤ most_of (suc m)
       go None stepped e = absurd cc
-      go (Some t) stepped e = after (x.price + t.1) (rest t.0) (omega (arith, of.price, step_is_low d s (shift_of x.choice) t stepped)) (later t.0) e
+      go (Some t) stepped e = after (x.price + t.1) (rest t.0) (omega (arith, of.price, transition_is_low d s (shift_of x.choice) t stepped)) (later t.0) e
 
   low_from : (m d : ℕ) (s : Summary) → IfSome (best_of_offers c n offers m d s) (λ label. label.0 ≤ most_of m)
   low_from zero d s = omega (arith, (small.contracts n).total.least)
@@ -175,7 +175,7 @@ module _ (c : Meaning) (small : HasSmallNumbers c) (n : ℕ) (offers : ℕ → L
       go : (o : Priced (List Offer)) → best_of_offers c n offers (suc m) d s ≡ o → ((t : Summary) → IfSome (best_of_offers c n offers m (suc d) t) (λ p. p.0 ≤ most_of m)) → IfSome o (λ label. label.0 ≤ most_of (suc m))
       go None is later = tt
       go (Some best) is later =
-          let one = one_of_all (λ x. best_after x (offer_step c n d s x) (best_of_offers c n offers m (suc d))) (IsOfferOf c) (offers d) best (of_case d) is in
+          let one = one_of_all (λ x. best_after x (offer_transition c n d s x) (best_of_offers c n offers m (suc d))) (IsOfferOf c) (offers d) best (of_case d) is in
           one_day m d s one.0 (best_of_offers c n offers m (suc d)) best one.1 later one.2
 
   pub label_low : (m d : ℕ) → m ≤ most_days → (s : Summary) → IfSome (best_of_offers c n offers m d s) (λ label. (label.0 ≤ most_label) × (label.0 < no_row))
@@ -193,7 +193,7 @@ pub record LowRow {X : Type 0} (p : Priced X) : Type 0 where
 module _ (c : Meaning) (n : ℕ) (offers : ℕ → List Offer) (of_case : (d : ℕ) → d < day_count c → All (IsOfferOf c) (offers d)) (small : HasSmallNumbers c) (weeks : week_count c ≤ most_weeks) where
   pub cost_over : (cost : ℕ) (best : List Offer) → best_over c n offers ≡ Some (cost, best) → cost < no_row
   cost_over cost best is =
-      let row = is_row offers (offer_step c n) (end_cost_of c n) (IsOfferOf c) (day_count c) 0 (summary_of c n []) cost best (λ d low high. of_case d (omega (arith, high))) is in
+      let row = is_row offers (offer_transition c n) (end_cost_of c n) (IsOfferOf c) (day_count c) 0 (summary_of c n []) cost best (λ d low high. of_case d (omega (arith, high))) is in
       cost_low c n small weeks best cost row.days row.each (row_cost c n best cost row.along)
 
   pub low_over : IsSome (best_over c n offers) → LowRow (best_over c n offers)

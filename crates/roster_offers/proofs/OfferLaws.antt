@@ -1,4 +1,5 @@
--- The offers of a day: each is of the case and at a small price, they are few, and where the roster keeps the hard rules there is one.
+-- The offers of a day: each is of the case and at a small price, they are few, and there is one if the roster
+-- keeps the hard rules.
 use Rattle.std.proofs.Common.{◌≡◌, ◌∙◌, ◌+◌, ◌-◌, ◌*◌, ◌<◌, ◌≤◌, ◌&&◌, ◌||◌, ◌==◌, ℕ, Bool, true, false, not, nat_lt, ap, arith, IfSome, refl, sym, List, [], ◌∷◌, cond, filter, length, map, Contains}
 use Rattle.std.proofs.Math.Bool.{and-true}
 use Rattle.std.specs.List.{All, count_by, flat_map, list_all, list_any, range_with_len}
@@ -84,12 +85,12 @@ module _ (c : Meaning) where
   choices_of_case : All (λ x. is_choice_of c x ≡ true) (all_choices c)
   choices_of_case = All-weaker (Contains (all_choices c)) (λ x. is_choice_of c x ≡ true) (member_is_choice c) (all_choices c) (All-contains_itself (all_choices c))
 
-  -- one of the choices that passes a test is counted
+  -- a choice that passes a test is counted
   choice_counted : (p : Choice → Bool) (x : Choice) → is_choice_of c x ≡ true → p x ≡ true → 0 < count_by p (all_choices c)
   choice_counted p x of_case passed =
       omega (arith, count-fewer (same_choice x) p (λ y same. ap p (sym (same_choice_is x y same)) ∙ passed) (all_choices c), count-choices c x, ap one_if of_case)
 
--- where only what the nurse is able to do is offered
+-- if only choices are offered that the nurse is able to take
 module _ (c : Meaning) (n : ℕ) (offered : ℕ → Choice → Bool) (price : ℕ → Choice → ℕ) (able : (d : ℕ) (x : Choice) → offered d x ≡ true → is_able (nurse_at c n).skills x ≡ true) (d : ℕ) where
   pub offers_few_of : length (offers_by c offered price d) ≤ choice_count c n
   unfolding choice_count
@@ -115,7 +116,7 @@ module _ (c : Meaning) (n : ℕ) (offered : ℕ → Choice → Bool) (price : �
         ap (λ m. m * length own) (length-range_with_len 0 (shift_count c)),
       )
 
--- an offered choice is one that the nurse is able to do
+-- an offered choice is one that the nurse is able to take
 offered_able : (c : Meaning) (from : ℕ) (r : Rows) (n d : ℕ) (x : Choice) → is_offered c from r n d x ≡ true → is_able (nurse_at c n).skills x ≡ true
 offered_able c from r n d x e =
     let may : Bool = may_take c n d x in
@@ -129,10 +130,10 @@ module _ (c : Meaning) (from : ℕ) (r : Rows) (n d : ℕ) where
   module _ (small : HasSmallNumbers c) (shifts : shift_count c ≤ most_shifts) (skills : skill_count c ≤ most_skills) where
     staffing_within : (have : ℕ → ℕ → ℕ) → staffing_cost_by c d have ≤ most_shifts * most_skills * staffing_weight * most_small
     staffing_within have =
-        let place : ℕ → ℕ → ℕ = λ s k. staffing_weight * (optimum c d s k - have s k) in
-        let of_place : (s k : ℕ) → place s k ≤ staffing_weight * most_small = λ s k. omega (arith, (small.needs d s k).optimum) in
-        let of_shift : (s : ℕ) → sum_below (skill_count c) (place s) ≤ most_skills * (staffing_weight * most_small) = λ s. omega (arith, sum_within (skill_count c) (staffing_weight * most_small) (place s) (λ k h. of_place s k)) in
-        omega (arith, sum_within (shift_count c) (most_skills * (staffing_weight * most_small)) (λ s. sum_below (skill_count c) (place s)) (λ s h. of_shift s))
+        let index : ℕ → ℕ → ℕ = λ s k. staffing_weight * (optimum c d s k - have s k) in
+        let of_index : (s k : ℕ) → index s k ≤ staffing_weight * most_small = λ s k. omega (arith, (small.needs d s k).optimum) in
+        let of_shift : (s : ℕ) → sum_below (skill_count c) (index s) ≤ most_skills * (staffing_weight * most_small) = λ s. omega (arith, sum_within (skill_count c) (staffing_weight * most_small) (index s) (λ k h. of_index s k)) in
+        omega (arith, sum_within (shift_count c) (most_skills * (staffing_weight * most_small)) (λ s. sum_below (skill_count c) (index s)) (λ s h. of_shift s))
 
     price_within : (x : Choice) → price c r n d x ≤ most_price
     price_within x = omega (arith, staffing_within (with_choice (others r n d) x), request_on-within c n d (shift_of x) small.keep)
@@ -187,6 +188,6 @@ module _ (c : Meaning) (from : ℕ) (r : Rows) (n d : ℕ) where
         ) in
         ap (map (offer_of c r n d)) (only_one present offered_choices some_offered few (All-weaker (λ x. is_offered c from r n d x ≡ true) (λ x. x ≡ present) is_present offered_choices (filter_passes (is_offered c from r n d) (all_choices c))))
 
-  -- on another day all that is open is offered
+  -- on another day everything that is open is offered
   pub offers_free : is_frozen c from n d ≡ false → offers_of c from r n d ≡ open_offers c r n d
   offers_free free = λ i. map (offer_of c r n d) (filter (λ x. (ap (λ b. is_open c r n d x && (not b || same_choice x (choice_on (row_of r n) d))) free ∙ and-true (is_open c r n d x)) i) (all_choices c))

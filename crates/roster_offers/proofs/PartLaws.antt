@@ -1,4 +1,4 @@
--- A part of a list is written anew.
+-- A segment of a list is replaced.
 use Rattle.std.proofs.Common.{◌≡◌, ◌+◌, ◌<◌, ◌≤◌, ℕ, arith, List, length, get_or}
 use Rattle.std.proofs.lemmas.List.{places}
 use borrow.Rule.Slice.PartMut.{put_mid}

@@ -1,4 +1,4 @@
--- What a row costs from state to state: its own cost and its prices, where it is offered.
+-- What a row costs from state to state: its own cost and its prices, if it is offered.
 use Rattle.std.proofs.Common.{◌≡◌, ◌∙◌, ◌+◌, ◌-◌, ◌<◌, ◌≤◌, ◌==◌, ◌&&◌, ℕ, zero, suc, Bool, true, false, not, ap, ap₂, arith, refl, sym, [], ◌∷◌, ◌++◌, append_assoc, length, Option, Some, None, if◌then◌else◌}
 use Rattle.std.proofs.lemmas.List.{append-nil, get_or_append_left, get_or_push, length-append, length-map, map-append}
 use Rattle.roster_instance.specs.declared.choice.Choice.{Choice}
@@ -15,21 +15,21 @@ use Rattle.roster_instance.specs.Rosters.{Row, choice_on}
 use Rattle.roster_rules.proofs.DayMore.{shift_before_it, shift_of_it}
 use Rattle.roster_rules.proofs.RunSums.{sum_same}
 use Rattle.roster_laws.proofs.Below.{all_same}
-use Rattle.roster_state.specs.Step.{end_cost_of, next_of, step_cost}
+use Rattle.roster_state.specs.Transition.{end_cost_of, next_of, transition_cost}
 use Rattle.roster_state.proofs.SumLaw.{closes, next_is, owed_more}
-use Rattle.roster_offers.specs.ByStates.{Steps, cost_after, cost_from}
+use Rattle.roster_offers.specs.ByStates.{Transitions, cost_after, cost_from}
 use Rattle.roster_offers.specs.Cheapest.{plus}
-use Rattle.roster_offers.specs.Offers.{dearer, offer_at, offer_step, offered_row_by, row_prices_by}
+use Rattle.roster_offers.specs.Offers.{dearer, offer_at, offer_transition, offered_row_by, row_prices_by}
 use Rattle.roster_offers.proofs.Cheapest.{plus_twice}
 
--- a step that is made where two tests allow it
-one_step : {S : Type 0} (was offered forbidden : Bool) (before price cost : ℕ) (t : S) (rest : S → Option ℕ)
+-- a transition that is made if two tests allow it
+one_transition : {S : Type 0} (was offered forbidden : Bool) (before price cost : ℕ) (t : S) (rest : S → Option ℕ)
     → (if was && (offered && not forbidden) then plus (before + (price + cost)) (rest t) else None)
     ≡ (if was then plus before (cost_after (if offered then dearer price (if forbidden then None else Some (t, cost)) else None) rest) else None)
-one_step true true true before price cost t rest = refl
-one_step true true false before price cost t rest = plus_twice before (price + cost) (rest t)
-one_step true false forbidden before price cost t rest = refl
-one_step false offered forbidden before price cost t rest = refl
+one_transition true true true before price cost t rest = refl
+one_transition true true false before price cost t rest = plus_twice before (price + cost) (rest t)
+one_transition true false forbidden before price cost t rest = refl
+one_transition false offered forbidden before price cost t rest = refl
 
 shift_before_more : (last : Option Shift) (days : Days) (s : Option Shift) (d : ℕ) → d ≤ length days → shift_before last (days ++ s ∷ []) d ≡ shift_before last days d
 shift_before_more last days s zero h = refl
@@ -42,9 +42,9 @@ module _ (c : Meaning) (n : ℕ) (offered : ℕ → Choice → Bool) (price : �
   abbrev row_prices : Row → ℕ
   row_prices = row_prices_by price
 
-  -- the nurse's step with a choice, where it is offered
-  abbrev pub choice_step : Steps Summary Choice
-  choice_step d s x = if offered d x then offer_step c n d s (offer_at price d x) else None
+  -- the nurse's transition with a choice, if it is offered
+  abbrev pub choice_transition : Transitions Summary Choice
+  choice_transition d s x = if offered d x then offer_transition c n d s (offer_at price d x) else None
 
   -- what the first days of a row owe, and what a whole row costs its nurse and the staffing
   abbrev pub owed : Row → ℕ
@@ -92,10 +92,10 @@ module _ (c : Meaning) (n : ℕ) (offered : ℕ → Choice → Bool) (price : �
       ap (λ m. sum_below m (λ d. price d (choice_on q d))) (longer p x)
       ∙ ap₂ (λ a b. a + b) (sum_same (length p) (λ d. price d (choice_on q d)) (λ d. price d (choice_on p d)) (λ d h. ap (price d) (before p x d h))) (ap (price (length p)) (here p x))
 
-  owed_with : (p : Row) (x : Choice) → owed (p ++ x ∷ []) ≡ owed p + (price (length p) x + step_cost c n (length p) (summary_of c n (days_of p)) (shift_of x))
+  owed_with : (p : Row) (x : Choice) → owed (p ++ x ∷ []) ≡ owed p + (price (length p) x + transition_cost c n (length p) (summary_of c n (days_of p)) (shift_of x))
   owed_with p x =
-      let more : due c n (days_of (p ++ x ∷ [])) ≡ due c n (days_of p) + step_cost c n (length p) (summary_of c n (days_of p)) (shift_of x) =
-      ap (due c n) (days_more p x) ∙ owed_more c n (days_of p) (shift_of x) ∙ ap (λ m. due c n (days_of p) + step_cost c n m (summary_of c n (days_of p)) (shift_of x)) (length-map p shift_of) in
+      let more : due c n (days_of (p ++ x ∷ [])) ≡ due c n (days_of p) + transition_cost c n (length p) (summary_of c n (days_of p)) (shift_of x) =
+      ap (due c n) (days_more p x) ∙ owed_more c n (days_of p) (shift_of x) ∙ ap (λ m. due c n (days_of p) + transition_cost c n m (summary_of c n (days_of p)) (shift_of x)) (length-map p shift_of) in
       omega (arith, more, prices_more p x)
 
   summary_with : (p : Row) (x : Choice) → summary_of c n (days_of (p ++ x ∷ [])) ≡ next_of c n (length p) (summary_of c n (days_of p)) (shift_of x)
@@ -104,7 +104,7 @@ module _ (c : Meaning) (n : ℕ) (offered : ℕ → Choice → Bool) (price : �
 
   -- ---- the rest of a row, from the state after its first days on
 
-  pub costs_by_states : (rest p : Row) → row_costs (p ++ rest) ≡ (if offered_row p (length p) then plus (owed p) (cost_from choice_step (end_cost_of c n) (length p) (summary_of c n (days_of p)) rest) else None)
+  pub costs_by_states : (rest p : Row) → row_costs (p ++ rest) ≡ (if offered_row p (length p) then plus (owed p) (cost_from choice_transition (end_cost_of c n) (length p) (summary_of c n (days_of p)) rest) else None)
   costs_by_states [] p =
       let all : own_cost c n (days_of p) + row_prices p ≡ owed p + end_cost_of c n (summary_of c n (days_of p)) = omega (arith, closes c n (days_of p)) in
       ap row_costs (append-nil p) ∙ (λ i. if offered_row p (length p) then Some (all i) else None)
@@ -112,6 +112,6 @@ module _ (c : Meaning) (n : ℕ) (offered : ℕ → Choice → Bool) (price : �
       let s : Summary = summary_of c n (days_of p) in
       ap row_costs (sym (append_assoc p (x ∷ []) rest))
       ∙ costs_by_states rest (p ++ x ∷ [])
-      ∙ (λ i. if offered_more p x i then plus (owed_with p x i) (cost_from choice_step (end_cost_of c n) (longer p x i) (summary_with p x i) rest) else None)
-      ∙ one_step (offered_row p (length p)) (offered (length p) x) (forbids c.successions s.last (shift_of x)) (owed p) (price (length p) x) (step_cost c n (length p) s (shift_of x)) (next_of c n (length p) s (shift_of x))
-      (λ t. cost_from choice_step (end_cost_of c n) (suc (length p)) t rest)
+      ∙ (λ i. if offered_more p x i then plus (owed_with p x i) (cost_from choice_transition (end_cost_of c n) (longer p x i) (summary_with p x i) rest) else None)
+      ∙ one_transition (offered_row p (length p)) (offered (length p) x) (forbids c.successions s.last (shift_of x)) (owed p) (price (length p) x) (transition_cost c n (length p) s (shift_of x)) (next_of c n (length p) s (shift_of x))
+      (λ t. cost_from choice_transition (end_cost_of c n) (suc (length p)) t rest)

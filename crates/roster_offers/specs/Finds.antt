@@ -1,4 +1,4 @@
--- What the search over offers finds (our own).
+-- What the search over offers finds.
 use Rattle.std.specs.Prelude.{◌≡◌, ℕ, ◌+◌, ◌<◌, Bool, true, List, [], ◌∷◌, Some}
 use Rattle.roster_instance.specs.declared.choice.Choice.{Choice}
 use Rattle.roster_instance.specs.Meaning.{Meaning, day_count}
@@ -24,8 +24,8 @@ FindsCheapest c n offered price =
     → IsFirstLeast (row_cost_at c n price) (offered_rows c n offered) (choices_of offers)
 
 -- it costs what the start owes, and the cost that is found
-abbrev pub TellsItsCost : Meaning → ℕ → (ℕ → Choice → Bool) → (ℕ → Choice → ℕ) → Type 0
-TellsItsCost c n offered price =
+abbrev pub GivesItsCost : Meaning → ℕ → (ℕ → Choice → Bool) → (ℕ → Choice → ℕ) → Type 0
+GivesItsCost c n offered price =
     (cost : ℕ) (offers : List Offer) → best_offered c n offered price ≡ Some (cost, offers)
     → row_cost_at c n price (choices_of offers) ≡ due c n [] + cost
 
@@ -34,19 +34,22 @@ TellsItsCost c n offered price =
 -- what is found is the nurse's best row
 abbrev pub FindsBestRow : Meaning → ℕ → Rows → ℕ → Type 0
 FindsBestRow c from r n =
-    (cost : ℕ) (offers : List Offer) → best_by_states c from r n ≡ Some (cost, offers) → IsBestRow c from r n (choices_of offers)
+    (cost : ℕ) (offers : List Offer) → best_by_states c from r n ≡ Some (cost, offers)
+    → IsBestRow c from r n (choices_of offers)
 
--- its cost is below the label of no row
+-- its cost is below what stands for no row
 abbrev pub FindsLowCost : Meaning → ℕ → Rows → ℕ → Type 0
-FindsLowCost c from r n = (cost : ℕ) (offers : List Offer) → best_by_states c from r n ≡ Some (cost, offers) → cost < no_row
+FindsLowCost c from r n =
+    (cost : ℕ) (offers : List Offer) → best_by_states c from r n ≡ Some (cost, offers) → cost < no_row
 
--- with it the roster's penalty is what the others' rows cost, what the start owes, and that cost
-abbrev pub TellsThePenalty : Meaning → ℕ → Rows → ℕ → Type 0
-TellsThePenalty c from r n =
+-- with it the roster's penalty is the sum of what the others' rows cost, what the start owes, and that cost
+abbrev pub GivesThePenalty : Meaning → ℕ → Rows → ℕ → Type 0
+GivesThePenalty c from r n =
     (cost : ℕ) (offers : List Offer) → best_by_states c from r n ≡ Some (cost, offers)
     → penalty_with c r n (choices_of offers) ≡ rest_of c r n + due c n [] + cost
 
 -- on each frozen day one choice is offered, the present one
 abbrev pub OffersThePresent : Meaning → ℕ → Rows → ℕ → Type 0
 OffersThePresent c from r n =
-    (d : ℕ) → d < day_count c → is_frozen c from n d ≡ true → offers_of c from r n d ≡ offer_of c r n d (choice_on (row_of r n) d) ∷ []
+    (d : ℕ) → d < day_count c → is_frozen c from n d ≡ true
+    → offers_of c from r n d ≡ offer_of c r n d (choice_on (row_of r n) d) ∷ []

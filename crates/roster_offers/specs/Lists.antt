@@ -1,4 +1,4 @@
--- The lists of offers that a search goes over, one for each day, and what it finds (our own).
+-- The lists of offers that a search goes over, one for each day, and what it finds.
 use Rattle.std.specs.Prelude.{◌≡◌, ℕ, ◌+◌, ◌*◌, ◌<◌, ◌≤◌, true, All, IfSome, List, [], Some, length, slice_index_or}
 use Rattle.arrayvec.specs.ArrayVec.{ArrayVec}
 use Rattle.roster_instance.specs.Limits.{most_shifts, most_skills, most_small}
@@ -17,7 +17,7 @@ use Rattle.roster_offers.specs.Offers.{best_of_offers, choices_of}
 abbrev pub most_price : ℕ
 most_price = most_shifts * most_skills * staffing_weight * most_small + most_request
 
--- its choice is one of the case's, and it costs no more than an offer can
+-- its choice is one of the case's, and its price is within range
 pub record IsOfferOf (c : Meaning) (offer : Offer) : Type 0 where
   pub choice : is_choice_of c offer.choice ≡ true
   pub price : offer.price ≤ most_price
@@ -32,7 +32,8 @@ AllAreOffersOf c offers = (d : ℕ) → All (IsOfferOf c) (offers d)
 abbrev pub offers_on : List (ArrayVec Offer) → ℕ → List Offer
 offers_on offers day = (slice_index_or offers day (record { items = [] })).items
 
--- a day's offers: one at least, no more than the nurse has choices, each a choice of the case at a price within range
+-- a day's offers: at least one, no more than the nurse has choices, each a choice of the case at a price
+-- within range
 pub record AreDayOffers (c : Meaning) (n : ℕ) (offers : List Offer) : Type 0 where
   pub of_case : All (IsOfferOf c) offers
   pub some : 0 < length offers
@@ -49,7 +50,7 @@ pub record AreOffers (c : Meaning) (n : ℕ) (offers : List (ArrayVec Offer)) : 
 abbrev pub no_row : ℕ
 no_row = 1073741824
 
--- no label of a state from which a row goes on is above that
+-- the greatest label of a state from which a row goes on
 abbrev pub most_label : ℕ
 most_label = 714740250
 
@@ -57,7 +58,7 @@ most_label = 714740250
 abbrev pub best_over : Meaning → ℕ → (ℕ → List Offer) → Priced (List Offer)
 best_over c n offers = best_of_offers c n offers (day_count c) 0 (summary_of c n [])
 
--- so many days' best row, if there is one, costs no more than a label can, and less than no row
+-- a best row, if there is one, costs no more than a label can, and less than what stands for no row
 abbrev pub HasLowLabel : Priced (List Offer) → Type 0
 HasLowLabel best = IfSome best (λ label. (label.0 ≤ most_label) × (label.0 < no_row))
 

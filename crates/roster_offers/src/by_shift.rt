@@ -1,4 +1,4 @@
-//! Of a day's offers one for each shift.
+//! The cheapest offer of a day for each shift.
 
 ghost use Rattle.std.specs.Prelude.{◌≡◌, ◌+◌, ◌<◌, ◌≤◌, length, take};
 ghost use Rattle.roster_instance.specs.Choices.{shift_of};
@@ -9,27 +9,28 @@ use crate::offer::{MOST_OFFERS, Offer};
 use arrayvec::ArrayVec;
 use roster_instance::Choice;
 
-/// Of the offers for one shift, which stand side by side, the cheapest, of equally cheap ones the first.
+/// For each shift the cheapest of its offers, which are next to each other in the list, and of equally cheap
+/// ones the first.
 pub fn cheapest_by_shift(offers: &[Offer]) -> ArrayVec<Offer, MOST_OFFERS>
     requires few { length (cheapest_by_shift offers.now) ≤ 1 + most_shifts }
     ensures cheapest { result.items ≡ cheapest_by_shift offers.now }
 {
     let mut kept = ArrayVec::new();
-    for place in 0..offers.len() {
-        keep_offer(offers, place, &mut kept);
+    for index in 0..offers.len() {
+        keep_offer(offers, index, &mut kept);
     }
     kept
 }
 
-/// Puts the offer at a place after those that are kept of the offers before it. Where the last of these is for the same shift, only
-/// the cheaper of the two stays, of equally cheap ones the first.
-fn keep_offer(offers: &[Offer], place: usize, kept: &mut ArrayVec<Offer, MOST_OFFERS>)
-    requires place { place < length offers.now }
+/// Adds the offer at an index to those that are kept of the offers before it. If the last of these is for the
+/// same shift, only the cheaper of the two is kept, of equally cheap ones the first.
+fn keep_offer(offers: &[Offer], index: usize, kept: &mut ArrayVec<Offer, MOST_OFFERS>)
+    requires index { index < length offers.now }
     requires few { length (cheapest_by_shift offers.now) ≤ 1 + most_shifts }
-    requires kept { kept.old.items ≡ cheapest_by_shift (take place offers.now) }
-    ensures kept { kept.new.items ≡ cheapest_by_shift (take (place + 1) offers.now) }
+    requires kept { kept.old.items ≡ cheapest_by_shift (take index offers.now) }
+    ensures kept { kept.new.items ≡ cheapest_by_shift (take (index + 1) offers.now) }
 {
-    let offer = offers[place];
+    let offer = offers[index];
     let Some(last) = kept.pop() else {
         kept.push(offer);
         return;
@@ -44,7 +45,7 @@ fn keep_offer(offers: &[Offer], place: usize, kept: &mut ArrayVec<Offer, MOST_OF
     }
 }
 
-/// Whether both choices are the same shift with whatever skills, or both to be off.
+/// Whether both choices are the same shift, with whatever skills, or both are a day off.
 fn is_same_shift(one: Choice, other: Choice) -> bool
     ensures { result ≡ same_shift (shift_of one) (shift_of other) }
 {

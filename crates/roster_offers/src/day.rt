@@ -10,7 +10,7 @@ ghost use Rattle.roster_instance.specs.Rosters.{is_choice_of};
 ghost use Rattle.roster_rules.specs.HardRules.{may_take};
 ghost use Rattle.roster_rules.specs.Penalties.{request_cost_on};
 ghost use Rattle.roster_rules.specs.Weights.{most_request};
-ghost use Rattle.roster_offers.specs.Offers.{TellsSkills, cheaper_offer, cheapest_by_shift, cheapest_with, offer_at, offers_open};
+ghost use Rattle.roster_offers.specs.Offers.{SaysWhichSkills, cheaper_offer, cheapest_by_shift, cheapest_with, offer_at, offers_open};
 
 use crate::offer::{MOST_CHOICES, MOST_OFFERS, Offer};
 use crate::requests::{can_cost_more, cost_of_requests};
@@ -28,7 +28,8 @@ pub struct NurseDay<'a> {
     pub ghost within: { day < day_count case.now },
 }
 
-/// What offers a nurse choices on a day: of those that she may take the ones that are open, each at a price.
+/// What decides which choices a nurse is offered on a day, and at which prices. It offers those of the
+/// choices that she may take which are open.
 pub trait Offering {
     /// It offers choices on this day of this nurse.
     ghost Serves: { Self → Meaning → (nurse day : ℕ) → Type 0 };
@@ -37,19 +38,21 @@ pub trait Offering {
 
     ghost price: { Self → (nurse day : ℕ) → Choice → ℕ };
 
-    /// A choice that the nurse may take, with its price, where it is open. `asked` is what her requests cost with it.
+    /// The choice with its price if it is open. The nurse may take it, and `asked` is what her requests cost
+    /// with it.
     fn offer(&self, at: &NurseDay<'_>, choice: Choice, asked: u32) -> Option<Offer>
         requires serves { Serves self.now at.now.case.now at.now.nurse at.now.day }
         requires choice { is_choice_of at.now.case.now choice ≡ true }
         requires able { may_take at.now.case.now at.now.nurse at.now.day choice ≡ true }
-        requires asked { asked ≡ request_cost_on at.now.case.now at.now.nurse at.now.day (shift_of choice) }
+        requires asked { asked ≡ request_cost_on at.now.case.now at.now.nurse at.now.day
+            (shift_of choice) }
         requires within { asked ≤ most_request }
         ensures { result ≡ (if is_open self.now at.now.nurse at.now.day choice then Some
             (offer_at (price self.now at.now.nurse) at.now.day choice) else None) };
 }
 
-/// All that a nurse is offered on a day, in the order of the choices. Her skills and absences are looked up once for the day, and
-/// what her requests cost is reckoned once for each shift.
+/// All that a nurse is offered on a day, in the order of the choices. Her skills and absences are looked up
+/// once for the day, and what her requests cost is computed once for each shift.
 pub fn offers_of_choices<O: Offering>(at: &NurseDay<'_>, by: &O) -> ArrayVec<Offer, MOST_CHOICES>
     requires serves { O.Serves by.now at.now.case.now at.now.nurse at.now.day }
     ensures offers { result.items ≡ offers_open at.now.case.now at.now.nurse
@@ -75,7 +78,8 @@ pub fn offers_of_choices<O: Offering>(at: &NurseDay<'_>, by: &O) -> ArrayVec<Off
     offers
 }
 
-/// What a nurse is offered on a day for each shift: to be off, and the cheapest of a shift, of equally cheap ones the first.
+/// What a nurse is offered on a day for each shift: a day off, and the cheapest offer of each shift, of
+/// equally cheap ones the first.
 pub fn offers_by_shift<O: Offering>(at: &NurseDay<'_>, by: &O) -> ArrayVec<Offer, MOST_OFFERS>
     requires serves { O.Serves by.now at.now.case.now at.now.nurse at.now.day }
     ensures offers { result.items ≡ cheapest_by_shift (offers_open at.now.case.now at.now.nurse
@@ -96,7 +100,8 @@ pub fn offers_by_shift<O: Offering>(at: &NurseDay<'_>, by: &O) -> ArrayVec<Offer
     offers
 }
 
-/// The cheapest of a shift, of equally cheap ones the first, by the skills that the nurse may work with.
+/// The cheapest offer of a shift, of equally cheap ones the first, among the skills that the nurse may work
+/// with.
 fn cheapest_work<O: Offering>(
     at: &NurseDay<'_>,
     shift: u8,
@@ -106,7 +111,7 @@ fn cheapest_work<O: Offering>(
 ) -> Option<Offer>
     requires serves { O.Serves by.now at.now.case.now at.now.nurse at.now.day }
     requires shift { shift < shift_count at.now.case.now }
-    requires able { TellsSkills at.now.case.now at.now.nurse at.now.day able.now }
+    requires able { SaysWhichSkills at.now.case.now at.now.nurse at.now.day able.now }
     requires asked { asked
         ≡ request_cost_on at.now.case.now at.now.nurse at.now.day (Some (shift_at shift)) }
     requires within { asked ≤ most_request }
@@ -125,7 +130,7 @@ fn cheapest_work<O: Offering>(
     cheapest
 }
 
-/// The cheaper of two offers, the first where they are equally cheap.
+/// The cheaper of two offers, and the first if they are equally cheap.
 fn cheaper_offer(one: Option<Offer>, other: Option<Offer>) -> Option<Offer>
     ensures { result ≡ cheaper_offer one other }
 {
@@ -155,7 +160,7 @@ fn push_some<const N: usize>(offers: &mut ArrayVec<Offer, N>, offer: Option<Offe
 /// For each skill of the case whether the nurse has it and isn't absent on the day.
 fn able_by_skill(case: &Case, nurse: usize, day: u16) -> [bool; 8]
     requires { nurse < nurse_count case.now }
-    ensures { TellsSkills case.now nurse day result }
+    ensures { SaysWhichSkills case.now nurse day result }
 {
     case.keeps_limits();
     let mut able = [false; 8];

@@ -1,4 +1,5 @@
-//! The best row is found from state to state. The functions here do nothing: each is a law, and its clauses say it.
+//! The best row is found from state to state. The functions here do nothing: each is a law, stated by its
+//! clauses.
 
 ghost use Rattle.std.specs.Prelude.{◌≡◌, ◌+◌, ◌<◌, ◌≤◌, ℕ, Bool, true, false, All, Contains, List, IsSome, length};
 ghost use Rattle.roster_instance.specs.declared.choice.Choice.{Choice};
@@ -10,25 +11,26 @@ ghost use Rattle.roster_rules.specs.Prefix.{Summary};
 ghost use Rattle.roster_instance.specs.Rosters.{Row, Rows, fits_case};
 ghost use Rattle.roster_instance.specs.Sizes.{choice_count};
 ghost use Rattle.roster_instance.specs.Small.{HasSmallNumbers, IsSmall};
-ghost use Rattle.roster_offers.specs.ByStates.{Steps, best_from, cheapest_of_rows};
-ghost use Rattle.roster_offers.specs.Finds.{FindsBestRow, FindsCheapest, FindsLowCost, OffersThePresent, TellsItsCost, TellsThePenalty, best_offered};
+ghost use Rattle.roster_offers.specs.ByStates.{Transitions, best_from, cheapest_of_rows};
+ghost use Rattle.roster_offers.specs.Finds.{FindsBestRow, FindsCheapest, FindsLowCost, OffersThePresent, GivesItsCost, GivesThePenalty, best_offered};
 ghost use Rattle.roster_offers.specs.Offers.{best_by_states, best_of_offers, cheapest_by_shift, offered_rows, offers_of, open_offers, shift_offers};
 ghost use Rattle.roster_offers.specs.Rises.{BestCostRises, DaysHaveRisen};
 ghost use Rattle.roster_offers.specs.Lists.{AllAreOffersOf, HasLowLabel, IsOfferOf};
 ghost use Rattle.roster_offers.specs.declared.offer.Offer.{Offer};
 
-/// The cheapest of all rows of the days' offers, the first of them, is what the search from state to state gives, with its
-/// cost, whatever the offers, the steps and the end are.
+/// The first of the cheapest of all rows of the days' offers is what the search from state to state gives,
+/// with its cost, whatever the offers, the transitions and the end are.
 pub fn cheapest_row_is_found_by_states()
-    ensures { (offers : ℕ → List Offer) (step : Steps Summary Offer) (finish : Summary → ℕ)
-        (m d : ℕ) (s : Summary) →
-        cheapest_of_rows offers step finish m d s ≡ best_from offers step finish m d s }
+    ensures { (offers : ℕ → List Offer) (next : Transitions Summary Offer)
+        (finish : Summary → ℕ) (m d : ℕ) (s : Summary) → cheapest_of_rows offers next finish m
+        d s ≡ best_from offers next finish m d s }
 {}
 
-/// Whatever a nurse is offered on each day, at whatever prices: where a row of the case has each choice offered on its day and keeps the
-/// successions, also after the history's last shift, the search over a table of offers, one for each shift, gives a row. It is the first
-/// of the cheapest of those rows, and what it costs, its prices and what the nurse's own rules cost along it, is what the start owes and
-/// the cost that the search gives.
+/// Whatever a nurse is offered on each day, at whatever prices: if a row of the case has each of its choices
+/// offered on its day and keeps the successions, the one after the history's last shift included, then the
+/// search over a table of offers, one for each shift, gives a row. It is the first of the cheapest of those
+/// rows. Its prices and what the nurse's own rules cost along it add up to what the start owes plus the cost
+/// that the search gives.
 pub fn cheapest_offered_row_is_found()
     ensures some { (c : Meaning) (n : ℕ) (offered : ℕ → Choice → Bool) (price : ℕ → Choice → ℕ)
         (row : Row) → Contains (offered_rows c n offered) row →
@@ -36,12 +38,13 @@ pub fn cheapest_offered_row_is_found()
     ensures least { (c : Meaning) (n : ℕ) (offered : ℕ → Choice → Bool) (price : ℕ → Choice → ℕ) →
         FindsCheapest c n offered price }
     ensures cost { (c : Meaning) (n : ℕ) (offered : ℕ → Choice → Bool) (price : ℕ → Choice → ℕ) →
-        TellsItsCost c n offered price }
+        GivesItsCost c n offered price }
 {}
 
-/// For a roster that fits the case and keeps the hard rules, the search over a nurse's offers gives a row. It is the nurse's best
-/// row, and the roster's penalty with it is what the other nurses' rows cost, what the start owes, and the cost that the search
-/// gives. In a case with small numbers that cost is below the label of no row.
+/// For a roster that fits the case and keeps the hard rules, the search over a nurse's offers gives a row. It
+/// is the nurse's best row, and the roster's penalty with it is the sum of what the other nurses' rows cost,
+/// what the start owes, and the cost that the search gives. In a case with small numbers that cost is below
+/// what stands for no row.
 pub fn best_row_is_found_by_states()
     ensures some { (c : Meaning) (from : ℕ) (r : Rows) → fits_case c r ≡ true →
         keeps_hard c r ≡ true → (n : ℕ) → n < nurse_count c → IsSome (best_by_states c from r n) }
@@ -50,20 +53,20 @@ pub fn best_row_is_found_by_states()
     ensures below { (c : Meaning) (from : ℕ) (r : Rows) → fits_case c r ≡ true →
         keeps_hard c r ≡ true → (n : ℕ) → n < nurse_count c → IsSmall c → FindsLowCost c from r n }
     ensures penalty { (c : Meaning) (from : ℕ) (r : Rows) → fits_case c r ≡ true →
-        keeps_hard c r ≡ true → (n : ℕ) → n < nurse_count c → TellsThePenalty c from r n }
+        keeps_hard c r ≡ true → (n : ℕ) → n < nurse_count c → GivesThePenalty c from r n }
 {}
 
-/// In a case with small numbers a label, what the best row of some days costs from a state on, is at most 714,740,250, below that of no
-/// row, whatever the state and the offers are.
+/// In a case with small numbers a label, the cost of the best row of some days from a state on, is at most
+/// 714,740,250, below what stands for no row, whatever the state and the offers are.
 pub fn labels_are_low()
     ensures { (c : Meaning) → HasSmallNumbers c → (n : ℕ) (offers : ℕ → List Offer)
         → AllAreOffersOf c offers → (m d : ℕ) → m ≤ most_days → (s : Summary)
         → HasLowLabel (best_of_offers c n offers m d s) }
 {}
 
-/// The offers of a day are choices of the case at small prices, and not more than the nurse has choices. For a roster that fits
-/// the case and keeps the hard rules there is one at least, and on a frozen day just one: the present choice. On another day all
-/// that is open is offered.
+/// The offers of a day are choices of the case at small prices, and no more than the nurse has choices. For a
+/// roster that fits the case and keeps the hard rules there is at least one, and on a frozen day exactly one:
+/// the present choice. On another day everything that is open is offered.
 pub fn offers_are_few()
     ensures each { (c : Meaning) → HasSmallNumbers c → shift_count c ≤ most_shifts →
         skill_count c ≤ most_skills → (from : ℕ) (r : Rows) (n d : ℕ) →
@@ -79,9 +82,9 @@ pub fn offers_are_few()
         offers_of c from r n d ≡ open_offers c r n d }
 {}
 
-/// Of the offers for one shift the first of the cheapest is enough: over these the best row, with its cost, is the best row over
-/// all, also where several are equally cheap. They are some of all, one at least where there is one, and of a roster's on a day at
-/// most one for each shift and one to be off.
+/// Of the offers for one shift the first of the cheapest is enough: the best row over these, with its cost,
+/// is the best row over all, even if several are equally cheap. They are some of all offers, at least one if
+/// there is one, and of a roster's offers on a day at most one for each shift and one for the day off.
 pub fn one_offer_for_each_shift_is_enough()
     ensures best { (c : Meaning) (n : ℕ) (offers : ℕ → List Offer) (m d : ℕ) (s : Summary) →
         best_of_offers c n (λ day. cheapest_by_shift (offers day)) m d s ≡ best_of_offers c n offers
@@ -95,9 +98,10 @@ pub fn one_offer_for_each_shift_is_enough()
         length (shift_offers c from r n d) ≤ 1 + shift_count c }
 {}
 
-/// After prices have changed, the best row costs less by no more than the days say. On each day let every new offer have an old one for the
-/// same shift, and let its price be higher than that one's by `rise` of the day at least, less `fall` of the day. Where the new offers
-/// have a best row, so have the old ones, and its cost with all that has risen is at most the new one's with all that has fallen.
+/// After prices have changed, the best row's cost has fallen by no more than the days say. Let every new
+/// offer of a day have an old one for the same shift, and let its price be higher than that one's by at least
+/// `rise` of the day less `fall` of the day. If the new offers have a best row, the old ones have one too,
+/// and its cost plus all that has risen is at most the new one's plus all that has fallen.
 pub fn cost_rises_with_prices()
     ensures { (c : Meaning) (n : ℕ) (old new : ℕ → List Offer) (rise fall : ℕ → ℕ) →
         DaysHaveRisen c rise fall old new → BestCostRises c n rise fall old new }

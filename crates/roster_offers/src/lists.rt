@@ -11,12 +11,13 @@ use roster_instance::Case;
 /// The greatest number of days of a case, `most_days` of the limits of an instance.
 pub const MOST_DAYS: usize = 364;
 
-/// A table of offers, with room for a list for each day of any case. It is long, so that who searches often keeps one.
+/// A table of offers, with capacity for a list for each day of any case. It is long, so a caller who searches
+/// often keeps one.
 pub type DayOffers = ArrayVec<ArrayVec<Offer, MOST_OFFERS>, MOST_DAYS>;
 
-/// What a search goes over: a nurse of a case, and for each day what the nurse is offered.
+/// The input of a search: a nurse of a case, and for each day what the nurse is offered.
 #[derive(Clone, Copy)]
-pub struct RowSearch<'a> {
+pub struct SearchInput<'a> {
     pub case: &'a Case,
     pub nurse: usize,
     pub offers: &'a [ArrayVec<Offer, MOST_OFFERS>],

@@ -10,7 +10,8 @@ use roster_instance::{Case, Shift};
 use roster_rules::weights::{OFF_REQUEST, WISH};
 use roster_rules::{keep_cost_on, meets_wishes};
 
-/// What the requests of a day cost, where it is known whether more than off requests can: mostly they can't.
+/// What the requests of a day cost. `more` says whether more than off requests can cost something, which is
+/// seldom the case.
 pub fn cost_of_requests(
     case: &Case,
     nurse: usize,
@@ -30,7 +31,8 @@ pub fn cost_of_requests(
     off_request_cost(case, nurse, day, shift)
 }
 
-/// Whether more than off requests can cost something on the day: a roster is kept, or the nurse has a wish to work then.
+/// Whether more than off requests can cost something on the day: a given roster is to be kept, or the nurse
+/// has a wish to work on that day.
 #[tactic(auto, using(roster_rules::proofs::KeptLemmas::free_at_no_points))]
 pub fn can_cost_more(case: &Case, nurse: usize, day: u16) -> bool
     requires { nurse < nurse_count case.now }
@@ -45,7 +47,8 @@ pub fn can_cost_more(case: &Case, nurse: usize, day: u16) -> bool
     has_some_wish(case, nurse, day)
 }
 
-/// Whether the nurse has a wish to work on the day: one that a day off doesn't meet. Without one, no wish costs anything there.
+/// Whether the nurse has a wish to work on the day: one that a day off doesn't meet. Without such a wish no
+/// wish costs anything on that day.
 fn has_some_wish(case: &Case, nurse: usize, day: u16) -> bool
     requires { nurse < nurse_count case.now }
     ensures some { result ≡ not (meets_wishes case.now nurse day None) }

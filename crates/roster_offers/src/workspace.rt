@@ -1,4 +1,4 @@
-//! The memory of a search.
+//! What a row search promises, and the memory that it works in.
 
 ghost use Rattle.std.specs.Prelude.{◌≡◌, ℕ, ◌+◌, ◌*◌, ◌<◌, ◌≤◌, List, [], ◌∷◌, ◌++◌, true, IfOk, IsSome, length, take};
 ghost use Rattle.roster_bundle.specs.Limits.{greatest_u64};
@@ -7,9 +7,9 @@ ghost use Rattle.roster_instance.specs.Meaning.{Meaning, day_count, nurse_count}
 ghost use Rattle.roster_laws.specs.Greatest.{extension_count, greatest_state_count};
 ghost use Rattle.roster_offers.specs.declared.offer.Offer.{Offer};
 ghost use Rattle.roster_offers.specs.Lists.{AreOffers, IsFound, best_over, no_row, offers_on};
-ghost use Rattle.roster_offers.specs.Workspaces.{HasTables, SameRoom, TableRoom, fits_space};
+ghost use Rattle.roster_offers.specs.Workspaces.{HasTables, SameCapacity, TableCapacity, fits_space};
 
-use crate::lists::{DayOffers, RowSearch};
+use crate::lists::{DayOffers, SearchInput};
 use crate::offer::{MOST_OFFERS, Offer};
 use arrayvec::ArrayVec;
 use roster_instance::{Case, Choice};
@@ -18,40 +18,46 @@ use std::alloc::{AllocError, Global};
 use std::marker::Model;
 use thiserror::Error;
 
-/// What searches the best row over a table of offers: tables of labels and pointers, and what else it keeps from one search to the next.
-/// Code that needs no more of a search than this contract is proved beside the search.
-pub trait RowTables: Drop {
-    /// How many labels and pointers there are, and for how many labels there is room without a growth.
-    ghost room: { Self → TableRoom };
+/// A search for the best row over a table of offers.
+///
+/// This trait is the seam between the improver and the search: the crates that improve a roster by best rows
+/// are generic over it and proved against these contracts alone. They know what a row search promises, which
+/// is the best row, its cost and a limit for the extensions that it counts, but not how it works. So either
+/// side can be changed and proved without the other. The program has one implementation, `RowSearcher` of
+/// `roster_partial`: whoever follows `main` down to the search goes on there.
+pub trait SearchesRows: Drop {
+    /// How many labels and pointers it has, and for how many labels it has capacity without an allocation.
+    ghost capacity: { Self → TableCapacity };
 
-    /// So many steps were counted over offers, from one count to another, and for what.
+    /// Says for what the meter counted, from one number to another, in a search over these offers.
     ghost IsCounted: { Meaning → ℕ → (ℕ → List Offer) → ℕ → ℕ → Type 0 };
 
-    /// Tables for so many states on so many days, by three growths.
+    /// A search for cases with at most this number of states and of days, by three allocations.
     ///
     /// # Errors
     ///
-    /// A growth was refused.
+    /// An allocation was refused.
     fn for_states(alloc: Global, states: usize, days: usize) -> Result<Self, AllocError>
         requires within { states * days ≤ greatest_u64 }
-        ensures labels { IfOk result (λ tables. (room tables).labels ≡ 2 * states) }
-        ensures pointers { IfOk result (λ tables. (room tables).pointers ≡ states * days) };
+        ensures labels { IfOk result (λ tables. (capacity tables).labels ≡ 2 * states) }
+        ensures pointers { IfOk result (λ tables. (capacity tables).pointers ≡ states * days) };
 
-    /// How many labels the tables have together.
+    /// How many labels its tables have together.
     fn labels(&self) -> usize
-        ensures { result ≡ (room self.now).labels };
+        ensures { result ≡ (capacity self.now).labels };
 
-    /// How many pointers there are.
+    /// How many pointers it has.
     fn pointers(&self) -> usize
-        ensures { result ≡ (room self.now).pointers };
+        ensures { result ≡ (capacity self.now).pointers };
 
-    /// Searches the best row over a table of offers, wherever these come from. `row` then begins with its choices, one for each day, and
-    /// the answer is its cost: its prices, and what the nurse's own rules cost along it beside what the start owes. It takes no memory.
-    fn search(&mut self, search: &RowSearch<'_>, row: &mut [Choice], meter: &mut Meter) -> u32
+    /// Searches the best row over a table of offers, wherever these come from. `row` then begins with its
+    /// choices, one for each day, and the result is its cost: its prices, and what the nurse's own rules cost
+    /// along it, without what the start owes. The search takes no memory.
+    fn search(&mut self, search: &SearchInput<'_>, row: &mut [Choice], meter: &mut Meter) -> u32
         requires some { IsSome (best_over search.now.case.now search.now.nurse
             (offers_on search.now.offers.now)) }
-        requires tables { HasTables search.now.case.now search.now.nurse (room self.old) }
-        requires row_room { day_count search.now.case.now ≤ length row.old }
+        requires tables { HasTables search.now.case.now search.now.nurse (capacity self.old) }
+        requires row_capacity { day_count search.now.case.now ≤ length row.old }
         requires room { meter.old + extension_count search.now.case.now
             search.now.nurse ≤ greatest_u64 }
 
@@ -66,9 +72,9 @@ pub trait RowTables: Drop {
         ensures each_day { meter.old + day_count search.now.case.now ≤ meter.new }
         ensures counted { meter.new ≤ meter.old + extension_count search.now.case.now
             search.now.nurse }
-        ensures standing { IsCounted search.now.case.now search.now.nurse
+        ensures are_reachable { IsCounted search.now.case.now search.now.nurse
             (offers_on search.now.offers.now) meter.old meter.new }
-        ensures tables { room self.new ≡ room self.old };
+        ensures tables { capacity self.new ≡ capacity self.old };
 
     /// What is counted depends on each day's offers alone.
     ghost counted_same: { (c : Meaning) (n : ℕ) (f g : ℕ → List Offer) →
@@ -76,18 +82,18 @@ pub trait RowTables: Drop {
         IsCounted c n f before after → IsCounted c n g before after };
 }
 
-/// What a search for a best row writes into: its tables and one row, which grow with the case, and the offers of a nurse, 29 kB for each
-/// case. One workspace serves all nurses of a case, one after another.
-pub struct Workspace<T: RowTables> {
+/// What a search for a best row writes into. The search's tables and one row grow with the case; the offers
+/// of a nurse take 29 kB for each case. One workspace serves all nurses of a case, one after another.
+pub struct Workspace<T: SearchesRows> {
     offers: DayOffers,
     tables: T,
     choices: Vec<Choice>,
-    /// How many of the choices are those of the last best row: none before the first.
+    /// How many of the choices are those of the last best row: none before the first search.
     filled: usize,
 }
 
-// By hand, so that who drops a workspace has one call to prove.
-impl<T: RowTables> Drop for Workspace<T> {
+// Written by hand, so that code that drops a workspace has one call to prove.
+impl<T: SearchesRows> Drop for Workspace<T> {
     fn drop(self) {
         let Workspace {
             offers: _,
@@ -98,18 +104,18 @@ impl<T: RowTables> Drop for Workspace<T> {
     }
 }
 
-impl<T: RowTables> Model for Workspace<T> {
+impl<T: SearchesRows> Model for Workspace<T> {
     ghost use Rattle.std.specs.Prelude.{◌≤◌, length, take, vec_capacity};
     ghost use Rattle.roster_offers.specs.Workspaces.{Space};
 
     ghost Value = { Space };
 
     ghost view = { λ w. record {
-      labels = (T.room w.tables).labels;
-      pointers = (T.room w.tables).pointers;
-      room = length w.choices.items;
-      label_capacity = (T.room w.tables).label_capacity;
-      later_capacity = (T.room w.tables).later_capacity;
+      labels = (T.capacity w.tables).labels;
+      pointers = (T.capacity w.tables).pointers;
+      choices = length w.choices.items;
+      label_capacity = (T.capacity w.tables).label_capacity;
+      later_capacity = (T.capacity w.tables).later_capacity;
       row_capacity = vec_capacity w.choices;
       row = take w.filled w.choices.items;
       offers = w.offers.items;
@@ -121,7 +127,7 @@ impl<T: RowTables> Model for Workspace<T> {
 /// Why there is no workspace.
 #[derive(Clone, Copy, Debug, PartialEq, Eq, Error)]
 pub enum BestFault {
-    /// A growth was refused.
+    /// An allocation was refused.
     #[error("no memory")]
     Memory,
 }
@@ -136,13 +142,13 @@ impl From<AllocError> for BestFault {
     }
 }
 
-impl<T: RowTables> Workspace<T> {
-    /// A workspace for the nurses of a case, by at most four growths: two tables of labels, the pointers, and a row. Its row is empty. It
-    /// serves any case that it fits.
+impl<T: SearchesRows> Workspace<T> {
+    /// A workspace for the nurses of a case, by at most four allocations: two label tables, the pointers, and
+    /// a row. Its row is empty. It serves any case that it fits.
     ///
     /// # Errors
     ///
-    /// A growth was refused.
+    /// An allocation was refused.
     pub fn for_case(alloc: Global, case: &Case) -> Result<Workspace<T>, BestFault>
         ensures labels { IfOk result (λ workspace. workspace.labels ≡ 2 * greatest_state_count
             case.now) }
@@ -161,7 +167,8 @@ impl<T: RowTables> Workspace<T> {
         })
     }
 
-    /// How many labels the two tables have together: twice as many as the nurse with the most states has states.
+    /// How many labels the two tables have together: twice the number of states of the nurse who has the
+    /// most.
     pub fn labels(&self) -> usize
         ensures { result ≡ self.now.labels }
     {
@@ -175,7 +182,8 @@ impl<T: RowTables> Workspace<T> {
         self.tables.pointers()
     }
 
-    /// Whether the numbers of labels and pointers are those of the case, and a row of it has room.
+    /// Whether the numbers of labels and pointers are those of the case, and the capacity of the row is
+    /// enough.
     pub fn fits(&self, case: &Case) -> bool
         ensures { result ≡ fits_space case.now self.now }
     {
@@ -208,8 +216,9 @@ impl<T: RowTables> Workspace<T> {
         self.offers.as_slice()
     }
 
-    /// Searches the best row over the offers that were put in, as its tables do. `row` shows it afterwards, and the answer is its cost:
-    /// its prices, and what the nurse's own rules cost along it beside what the start owes. It takes no memory.
+    /// Searches the best row over the offers that were put in. `row` shows it afterwards, and the result is
+    /// its cost: its prices, and what the nurse's own rules cost along it, without what the start owes. The
+    /// search takes no memory.
     pub fn search_offers(&mut self, case: &Case, nurse: usize, meter: &mut Meter) -> u32
         requires nurse { nurse < nurse_count case.now }
         requires offers { AreOffers case.now nurse self.old.offers }
@@ -225,13 +234,13 @@ impl<T: RowTables> Workspace<T> {
         // What it takes.
         ensures each_day { meter.old + day_count case.now ≤ meter.new }
         ensures counted { meter.new ≤ meter.old + extension_count case.now nurse }
-        ensures standing { T.IsCounted case.now nurse (offers_on self.old.offers) meter.old
+        ensures are_reachable { T.IsCounted case.now nurse (offers_on self.old.offers) meter.old
             meter.new }
-        ensures same_room { SameRoom self.old self.new }
+        ensures same_capacity { SameCapacity self.old self.new }
         ensures fits { fits_space case.now self.new ≡ true }
         ensures offers { self.new.offers ≡ self.old.offers }
     {
-        let search = RowSearch {
+        let search = SearchInput {
             case,
             nurse,
             offers: self.offers.as_slice(),
@@ -261,10 +270,10 @@ pub fn greatest_states(case: &Case) -> u32
     greatest
 }
 
-/// How many floors, partial rows and states a search for a nurse's best row takes over a choice, at most: as many as each state on each
-/// day by each choice of the nurse.
+/// How many extensions a search for a nurse's best row counts at most: one for each state of the nurse, each
+/// day and each choice.
 #[tactic(auto, unfolding(roster_laws::specs::Greatest::extension_count))]
-pub fn most_steps(case: &Case, nurse: usize) -> u64
+pub fn most_search_extensions(case: &Case, nurse: usize) -> u64
     requires { nurse < nurse_count case.now }
     ensures count { result ≡ extension_count case.now nurse }
     ensures within { result ≤ most_states * most_days * (1 + most_shifts * most_skills) }

@@ -1,4 +1,4 @@
--- A day more for all partial rows: each goes on by each offer.
+-- One day more for all partial rows: each is extended by each offer.
 use Rattle.std.proofs.Common.{◌≡◌, ◌∙◌, ◌+◌, ◌-◌, ◌*◌, ◌<◌, ◌≤◌, ℕ, zero, suc, ap, arith, refl, sym, subst, List, [], ◌∷◌, ◌++◌, length, take, drop, slice_index_or}
 use Rattle.std.specs.List.{All}
 use Rattle.std.proofs.lemmas.Nat.{mul-le}
@@ -7,7 +7,7 @@ use Rattle.roster_instance.specs.Meaning.{day_count}
 use Rattle.roster_offers.specs.declared.offer.Offer.{Offer}
 use Rattle.roster_offers.specs.ByStates.{best_after}
 use Rattle.roster_offers.specs.Cheapest.{Priced, cheaper, cheapest, raised}
-use Rattle.roster_offers.specs.Offers.{best_of_offers, offer_step}
+use Rattle.roster_offers.specs.Offers.{best_of_offers, offer_transition}
 use Rattle.roster_offers.proofs.Cheapest.{cheaper_none, cheapest_raised, grouped}
 use Rattle.roster_partial.specs.declared.limited.LimitedSearch.{LimitedSearch}
 use Rattle.roster_partial.specs.declared.rows.Entry.{Entry}
@@ -38,18 +38,18 @@ module _ {Y X : Type 0} where
 
 -- ---- a partial row by all offers of its day
 
--- where as many days are left after day d as these say
+-- if as many days are left after day d as `days` says
 by_each_offer : (days : Days) (d : ℕ) (e : Entry) → cheapest (best_by days d e) (days.offers d) ≡ best_of (record days { left = suc days.left; day = d }) e
 unfolding best_of best_by
 by_each_offer days d e =
     let onward : List Offer → List Offer = λ rest. offers_to days.offers days.earlier d e ++ rest in
-    let after : Offer → Priced (List Offer) = λ x. best_after x (offer_step days.case days.nurse d e.state x) (best_of_offers days.case days.nurse days.offers days.left (suc d)) in
+    let after : Offer → Priced (List Offer) = λ x. best_after x (offer_transition days.case days.nurse d e.state x) (best_of_offers days.case days.nurse days.offers days.left (suc d)) in
     sym (within_cheapest days.limit (λ x. raised e.cost onward (after x)) (days.offers d)) ∙ ap (within days.limit) (cheapest_raised e.cost onward after (days.offers d))
 
--- the best row that begins as the partial row is that of the day after, by one of the offers
-pub by_offers : (limited : LimitedSearch) (day : ℕ) (earlier : List Entry) (e : Entry) → day < day_count limited.floors.search.case.now → cheapest (best_by (days_on limited (suc day) earlier) day e) ((days_on limited day earlier).offers day) ≡ best_of (days_on limited day earlier) e
+-- the best row that begins with the partial row is that of the day after, by one of the offers
+pub by_offers : (limited : LimitedSearch) (day : ℕ) (earlier : List Entry) (e : Entry) → day < day_count limited.completion_bounds.search.case.now → cheapest (best_by (days_on limited (suc day) earlier) day e) ((days_on limited day earlier).offers day) ≡ best_of (days_on limited day earlier) e
 by_offers limited day earlier e before =
-    let left : suc (day_count limited.floors.search.case.now - suc day) ≡ day_count limited.floors.search.case.now - day = omega (arith, before) in
+    let left : suc (day_count limited.completion_bounds.search.case.now - suc day) ≡ day_count limited.completion_bounds.search.case.now - day = omega (arith, before) in
     by_each_offer (days_on limited (suc day) earlier) day e ∙ ap (λ n. best_of (record (days_on limited day earlier) { left = n }) e) left
 
 -- ---- a list with more entries at its end
@@ -71,9 +71,9 @@ module _ (days : Days) (ys : List Entry) (same : (k : ℕ) → k < length days.e
   entry_further : length days.earlier ≤ length ys → (e : Entry) → IsEntryOf days e → IsEntryOf (record days { earlier = ys }) e
   entry_further longer e is = record { fits = is.fits; linked = linked_further days.offers days.earlier ys same longer days.day e is.linked }
 
--- a place of the day, counted from the day's first
-place_after : (first : ℕ) (rows : List Entry) (before : ℕ) (d : Entry) → first ≤ before → slice_index_or (drop first rows) (before - first) d ≡ slice_index_or rows before d
-place_after first rows before d from =
+-- an index among the entries of the day, counted from the first of them
+index_after : (first : ℕ) (rows : List Entry) (before : ℕ) (d : Entry) → first ≤ before → slice_index_or (drop first rows) (before - first) d ≡ slice_index_or rows before d
+index_after first rows before d from =
     let there : first + (before - first) ≡ before = omega (arith, from) in
     get_or-drop first rows (before - first) d ∙ ap (λ k. slice_index_or rows k d) there
 
@@ -81,7 +81,7 @@ module _ (limited : LimitedSearch) (day first : ℕ) (rows : List Entry) (inside
   same_front : (k : ℕ) → k < length (take first rows) → entry_numbered (take first rows) k ≡ entry_numbered rows k
   same_front k below = get_or-take first rows k _ (omega (arith, below, length-take-le first rows inside))
 
-  -- an entry that names those of the front names those of the whole list
+  -- an entry that names entries of the front names the same ones of the whole list
   pub entry_of_all : (e : Entry) → IsEntryOf (days_on limited day (take first rows)) e → IsEntryOf (days_on limited day rows) e
   entry_of_all e is = entry_further (days_on limited day (take first rows)) rows same_front (omega (arith, length-take-le first rows inside, inside)) e is
 
@@ -92,7 +92,7 @@ module _ (limited : LimitedSearch) (day first : ℕ) (rows : List Entry) (inside
   -- a partial row of the day
   pub entry_of_day : (before : ℕ) → first ≤ before → before < length rows → All (IsEntryOf (days_on limited day (take first rows))) (drop first rows) → IsEntryOf (days_on limited day rows) (entry_numbered rows before)
   entry_of_day before from below are =
-      entry_of_all (entry_numbered rows before) (subst (IsEntryOf (days_on limited day (take first rows))) (place_after first rows before _ from) (are (before - first) _ (omega (arith, from, below, length-drop first rows))))
+      entry_of_all (entry_numbered rows before) (subst (IsEntryOf (days_on limited day (take first rows))) (index_after first rows before _ from) (are (before - first) _ (omega (arith, from, below, length-drop first rows))))
 
 -- ---- one partial row after the other
 
@@ -104,16 +104,16 @@ next_entry f rows first before so_far more from below is next =
     let inside : k < length day = omega (arith, from, below, length-drop first rows) in
     let one : suc k ≡ before + 1 - first = omega (arith, from) in
     next ∙ ap (λ o. cheaper o (f (entry_numbered rows before))) is
-    ∙ ap (λ e. cheaper (cheapest f (take k day)) (f e)) (sym (place_after first rows before _ from))
+    ∙ ap (λ e. cheaper (cheapest f (take k day)) (f e)) (sym (index_after first rows before _ from))
     ∙ sym (cheapest_next f day k _ inside)
     ∙ ap (λ n. cheapest f (take n day)) one
 
--- as many more steps at most, for one partial row more
+-- at most one extension more for each offer, with one partial row more
 pub count_more : (start now new size n m : ℕ) → m ≡ n + 1 → now ≤ start + n * size → new ≤ now + size → new ≤ start + m * size
 count_more start now new size n m one so_far next = omega (arith, ap (λ k. k * size) one, so_far, next)
 
--- where another one is to come, there is room for its steps
-pub room_left : (start now n m size most : ℕ) → n < m → now ≤ start + n * size → start + m * size ≤ most → now + size ≤ most
-room_left start now n m size most more so_far all =
+-- if another partial row is to come, its extensions are still left
+pub extensions_left : (start now n m size most : ℕ) → n < m → now ≤ start + n * size → start + m * size ≤ most → now + size ≤ most
+extensions_left start now n m size most more so_far all =
     let next : (n + 1) * size ≤ m * size = mul-le (n + 1) size m size (omega (arith, more)) (omega arith) in
     omega (arith, next, so_far, all)

@@ -1,11 +1,12 @@
--- The search over all days: the partial row without a day, the rows in the end, and the row that is read backward.
+-- The search over all days: the partial row of no days, the rows in the end, and the row that is read
+-- backward.
 use Rattle.std.proofs.Common.{◌≡◌, ◌∙◌, ◌+◌, ◌-◌, ◌<◌, ◌≤◌, ℕ, zero, suc, ap, append-nil, arith, refl, sym, subst, drop, length, slice_set, take, List, [], ◌∷◌, ◌++◌, Option, Some, None}
 use Rattle.std.specs.Prelude.{option_map}
 use Rattle.roster_instance.specs.declared.choice.Choice.{Choice}
 use Rattle.roster_instance.specs.Meaning.{day_count}
 use Rattle.roster_instance.specs.Rosters.{Row}
 use Rattle.roster_rules.specs.Prefix.{summary_of}
-use Rattle.roster_state.specs.Step.{end_cost_of}
+use Rattle.roster_state.specs.Transition.{end_cost_of}
 use Rattle.roster_offers.specs.declared.offer.Offer.{Offer}
 use Rattle.roster_offers.specs.Cheapest.{Priced, cheaper, raised}
 use Rattle.roster_offers.specs.Offers.{best_of_offers, choices_of}
@@ -16,52 +17,52 @@ use Rattle.roster_partial.specs.declared.rows.Entry.{Entry}
 use Rattle.roster_partial.specs.Rows.{IsLinked, best_of, entry_numbered, offer_numbered, offers_to, within}
 use Rattle.roster_partial.specs.Searches.{days_on}
 
--- ---- the partial row without a day
+-- ---- the partial row of no days
 
 unchanged : {X : Type 0} (p : Priced X) → raised 0 (λ x. x) p ≡ p
 unchanged None = refl
 unchanged (Some p) = ap (λ cost. Some (cost, p.1)) (omega arith)
 
--- each row begins so
-pub best_at_start : (limited : LimitedSearch) (e : Entry) → e.state ≡ summary_of limited.floors.search.case.now limited.floors.search.nurse [] → e.cost ≡ 0 → best_of (days_on limited 0 []) e ≡ within limited.limit (best_over limited.floors.search.case.now limited.floors.search.nurse (offers_on limited.floors.search.offers.now))
+-- each row begins with it
+pub best_at_start : (limited : LimitedSearch) (e : Entry) → e.state ≡ summary_of limited.completion_bounds.search.case.now limited.completion_bounds.search.nurse [] → e.cost ≡ 0 → best_of (days_on limited 0 []) e ≡ within limited.limit (best_over limited.completion_bounds.search.case.now limited.completion_bounds.search.nurse (offers_on limited.completion_bounds.search.offers.now))
 unfolding best_of
 best_at_start limited e state cost =
-    let c = limited.floors.search.case.now in
-    let n = limited.floors.search.nurse in
-    let offers = offers_on limited.floors.search.offers.now in
+    let c = limited.completion_bounds.search.case.now in
+    let n = limited.completion_bounds.search.nurse in
+    let offers = offers_on limited.completion_bounds.search.offers.now in
     let all : day_count c - 0 ≡ day_count c = omega arith in
     (λ i. within limited.limit (raised (cost i) (λ rest. rest) (best_of_offers c n offers (all i) 0 (state i))))
     ∙ ap (within limited.limit) (unchanged (best_over c n offers))
 
 -- ---- in the end
 
--- a partial row of all days is a row, at its cost and what is owed in the end
-pub best_at_last : (limited : LimitedSearch) (earlier : List Entry) (e : Entry) → best_of (days_on limited (day_count limited.floors.search.case.now) earlier) e ≡ within limited.limit (Some (e.cost + end_cost_of limited.floors.search.case.now limited.floors.search.nurse e.state, offers_to (offers_on limited.floors.search.offers.now) earlier (day_count limited.floors.search.case.now) e))
+-- a partial row of all days is a row, whose cost is its cost and what is owed in the end
+pub best_at_last : (limited : LimitedSearch) (earlier : List Entry) (e : Entry) → best_of (days_on limited (day_count limited.completion_bounds.search.case.now) earlier) e ≡ within limited.limit (Some (e.cost + end_cost_of limited.completion_bounds.search.case.now limited.completion_bounds.search.nurse e.state, offers_to (offers_on limited.completion_bounds.search.offers.now) earlier (day_count limited.completion_bounds.search.case.now) e))
 unfolding best_of
 best_at_last limited earlier e =
-    let c = limited.floors.search.case.now in
-    let n = limited.floors.search.nurse in
-    let offers = offers_on limited.floors.search.offers.now in
+    let c = limited.completion_bounds.search.case.now in
+    let n = limited.completion_bounds.search.nurse in
+    let offers = offers_on limited.completion_bounds.search.offers.now in
     let row = offers_to offers earlier (day_count c) e in
     let none : day_count c - day_count c ≡ 0 = omega arith in
     (λ i. within limited.limit (raised e.cost (λ rest. row ++ rest) (best_of_offers c n offers (none i) (day_count c) e.state)))
     ∙ ap (λ xs. within limited.limit (Some (e.cost + end_cost_of c n e.state, xs))) (append-nil row)
 
--- the first of the cheapest of some entries is told by its cost and its place
+-- the first of the cheapest of some entries is given by its cost and its index
 module _ {X : Type 0} (row : ℕ → X) where
-  abbrev pub told : Option (ℕ × ℕ) → Priced X
-  told least = option_map (λ x. (x.0, row x.1)) least
+  abbrev pub listed : Option (ℕ × ℕ) → Priced X
+  listed least = option_map (λ x. (x.0, row x.1)) least
 
   -- with one more
-  module _ (cost place : ℕ) (more : Priced X) (is : more ≡ Some (cost, row place)) (least : Option (ℕ × ℕ)) where
-    pub dearer_more : (x : ℕ × ℕ) → least ≡ Some x → x.0 ≤ cost → told least ≡ cheaper (told least) more
-    dearer_more x was low = subst (λ o. told o ≡ cheaper (told o) more) (sym was) (sym (ap (cheaper (told (Some x))) is ∙ keeps_first (x.0, row x.1) (cost, row place) low))
+  module _ (cost index : ℕ) (more : Priced X) (is : more ≡ Some (cost, row index)) (least : Option (ℕ × ℕ)) where
+    pub dearer_more : (x : ℕ × ℕ) → least ≡ Some x → x.0 ≤ cost → listed least ≡ cheaper (listed least) more
+    dearer_more x was low = subst (λ o. listed o ≡ cheaper (listed o) more) (sym was) (sym (ap (cheaper (listed (Some x))) is ∙ keeps_first (x.0, row x.1) (cost, row index) low))
 
-    pub cheaper_more : (x : ℕ × ℕ) → least ≡ Some x → cost < x.0 → told (Some (cost, place)) ≡ cheaper (told least) more
-    cheaper_more x was low = subst (λ o. told (Some (cost, place)) ≡ cheaper (told o) more) (sym was) (sym (ap (cheaper (told (Some x))) is ∙ takes_second (x.0, row x.1) (cost, row place) low))
+    pub cheaper_more : (x : ℕ × ℕ) → least ≡ Some x → cost < x.0 → listed (Some (cost, index)) ≡ cheaper (listed least) more
+    cheaper_more x was low = subst (λ o. listed (Some (cost, index)) ≡ cheaper (listed o) more) (sym was) (sym (ap (cheaper (listed (Some x))) is ∙ takes_second (x.0, row x.1) (cost, row index) low))
 
-    pub first_more : least ≡ None → told (Some (cost, place)) ≡ cheaper (told least) more
-    first_more was = subst (λ o. told (Some (cost, place)) ≡ cheaper (told o) more) (sym was) (sym is)
+    pub first_more : least ≡ None → listed (Some (cost, index)) ≡ cheaper (listed least) more
+    first_more was = subst (λ o. listed (Some (cost, index)) ≡ cheaper (listed o) more) (sym was) (sym is)
 
 -- ---- the row, read backward
 

@@ -3,6 +3,6 @@ mod DaysLaws
 mod RowCells
 mod RowLaws
 mod SomeStates
-mod StepLaws
+mod TransitionLaws
 pub mod AllowedLaw
 pub mod CountLaws

@@ -1,4 +1,4 @@
--- Partial rows in the cells of a table of labels.
+-- Partial rows in the cells of a label table.
 use Rattle.std.proofs.Common.{◌≡◌, ◌≢◌, ◌∙◌, ◌+◌, ◌*◌, ◌/◌, ◌%◌, ◌<◌, ◌≤◌, ℕ, zero, suc, inl, inr, ap, arith, refl, sym, List, [], ◌∷◌, ◌++◌, length, slice_index_or, slice_set}
 use Rattle.std.proofs.lemmas.Bool.{cases_lt}
 use Rattle.std.proofs.lemmas.Grind.{get_or-set_at}
@@ -10,7 +10,7 @@ use Rattle.roster_state.proofs.CodeLemmas.{shift_numbered-shift_digit}
 use Rattle.roster_partial.specs.declared.rows.Entry.{Entry}
 use Rattle.roster_partial.specs.Rows.{count_in, entry_in, entry_numbered, entry_of, rows_in, rows_to}
 
--- ---- the entries, place by place
+-- ---- the entries, index by index
 
 module _ (cells : List ℕ) where
   length-rows_to : (n : ℕ) → length (rows_to cells n) ≡ n
@@ -78,38 +78,38 @@ module _ (old new : List ℕ) where
         let next : count_in new ≡ suc (count_in old) = omega (arith, more) in
         ap (rows_to new) next ∙ (λ i. same-rows_to (count_in old) kept_entry i ++ is i ∷ [])
 
-  -- the cost of one entry is another one
-  module _ (place cost : ℕ) (is : slice_index_or new (4 * place + 1) 0 ≡ cost) (others : (j : ℕ) → j ≢ 4 * place + 1 → slice_index_or new j 0 ≡ slice_index_or old j 0) where
-    other_entry : (k : ℕ) → k ≢ place → entry_in new k ≡ entry_in old k
+  -- the cost of one entry is changed
+  module _ (index cost : ℕ) (is : slice_index_or new (4 * index + 1) 0 ≡ cost) (others : (j : ℕ) → j ≢ 4 * index + 1 → slice_index_or new j 0 ≡ slice_index_or old j 0) where
+    other_entry : (k : ℕ) → k ≢ index → entry_in new k ≡ entry_in old k
     other_entry k apart = same_entry k (others (4 * k + 1) (λ e. apart (omega (arith, e)))) (others (4 * k + 2) (λ e. absurd (omega (arith, e)))) (others (4 * k + 3) (λ e. absurd (omega (arith, e)))) (others (4 * k + 4) (λ e. absurd (omega (arith, e))))
 
-    this_entry : entry_in new place ≡ record (entry_in old place) { cost = cost }
+    this_entry : entry_in new index ≡ record (entry_in old index) { cost = cost }
     this_entry =
-        let runs = others (4 * place + 2) (λ e. absurd (omega (arith, e))) in
-        let counts = others (4 * place + 3) (λ e. absurd (omega (arith, e))) in
-        let link = others (4 * place + 4) (λ e. absurd (omega (arith, e))) in
+        let runs = others (4 * index + 2) (λ e. absurd (omega (arith, e))) in
+        let counts = others (4 * index + 3) (λ e. absurd (omega (arith, e))) in
+        let link = others (4 * index + 4) (λ e. absurd (omega (arith, e))) in
         λ i. entry_of (is i) (runs i) (counts i) (link i)
 
-    one_cost : (n : ℕ) → place < n → rows_to new n ≡ slice_set (rows_to old n) place (record (entry_in old place) { cost = cost })
+    one_cost : (n : ℕ) → index < n → rows_to new n ≡ slice_set (rows_to old n) index (record (entry_in old index) { cost = cost })
     one_cost zero below = absurd (omega (arith, below))
-    one_cost (suc n) below = elim (cases_lt place n) [
+    one_cost (suc n) below = elim (cases_lt index n) [
       | inl h ↦
-          let apart : n ≢ place = λ e. absurd (omega (arith, e, h)) in
+          let apart : n ≢ index = λ e. absurd (omega (arith, e, h)) in
           (λ i. one_cost n h i ++ other_entry n apart i ∷ [])
-          ∙ sym (set-append_left (rows_to old n) (entry_in old n ∷ []) place (record (entry_in old place) { cost = cost }) (omega (arith, h, length-rows_to old n)))
+          ∙ sym (set-append_left (rows_to old n) (entry_in old n ∷ []) index (record (entry_in old index) { cost = cost }) (omega (arith, h, length-rows_to old n)))
       | inr h ↦
-          let same : n ≡ place = omega (arith, below, h) in
-          let last : length (rows_to old n) ≡ place = omega (arith, below, h, length-rows_to old n) in
+          let same : n ≡ index = omega (arith, below, h) in
+          let last : length (rows_to old n) ≡ index = omega (arith, below, h, length-rows_to old n) in
           (λ i. same-rows_to n (λ k l. other_entry k (λ e. absurd (omega (arith, e, l, h)))) i ++ (ap (entry_in new) same ∙ this_entry) i ∷ [])
-          ∙ sym (set-append_seam (rows_to old n) (entry_in old n) [] (record (entry_in old place) { cost = cost }))
-          ∙ ap (λ k. slice_set (rows_to old n ++ entry_in old n ∷ []) k (record (entry_in old place) { cost = cost })) last
+          ∙ sym (set-append_seam (rows_to old n) (entry_in old n) [] (record (entry_in old index) { cost = cost }))
+          ∙ ap (λ k. slice_set (rows_to old n ++ entry_in old n ∷ []) k (record (entry_in old index) { cost = cost })) last
     ]
 
-    pub marked : place < count_in old → count_in new ≡ count_in old → rows_in new ≡ slice_set (rows_in old) place (record (entry_numbered (rows_in old) place) { cost = cost })
+    pub marked : index < count_in old → count_in new ≡ count_in old → rows_in new ≡ slice_set (rows_in old) index (record (entry_numbered (rows_in old) index) { cost = cost })
     unfolding rows_in
     marked below same =
         ap (rows_to new) same ∙ one_cost (count_in old) below
-        ∙ ap (λ (e : Entry). slice_set (rows_to old (count_in old)) place (record e { cost = cost })) (sym (at-rows_to old (count_in old) place _ below))
+        ∙ ap (λ (e : Entry). slice_set (rows_to old (count_in old)) index (record e { cost = cost })) (sym (at-rows_to old (count_in old) index _ below))
 
 -- ---- the cells of one more, as they are written
 
@@ -144,7 +144,7 @@ module _ (cells : List ℕ) (first cost runs counts link more : ℕ) (room : fir
   pub written_count : slice_index_or written 0 0 ≡ more
   written_count = get_or-set_at four 0 0 more 0 refl (omega (arith, room, long_four))
 
-  -- the first cell is the last that is set
+  -- the first cell is the last one that is set
   but_first : (j : ℕ) → j ≢ 0 → slice_index_or written j 0 ≡ slice_index_or four j 0
   but_first j some = get_or-set_other four 0 j more 0 some
 

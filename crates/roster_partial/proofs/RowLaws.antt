@@ -1,4 +1,4 @@
--- Lists of partial rows: one left out.
+-- Lists of partial rows of which one is dominated.
 use Rattle.std.proofs.Common.{◌≡◌, ◌∙◌, ◌+◌, ◌<◌, ◌≤◌, ◌⊎◌, ℕ, zero, suc, inl, inr, ap, arith, refl, subst, sym, List, [], ◌∷◌, ◌++◌, length, Some, None, slice_index_or, slice_set}
 use Rattle.std.proofs.lemmas.Bool.{cases_lt, lt-ltb, le-ltb}
 use Rattle.roster_state.specs.Codes.{fits_sizes, sizes_of}
@@ -10,12 +10,12 @@ use Rattle.roster_partial.specs.declared.rows.Entry.{Entry}
 use Rattle.std.proofs.Math.Path.{transport}
 use Rattle.roster_partial.specs.Rows.{Days, IsEntryOf, IsLinked, best_of, entry_numbered, row_of, within}
 
--- ---- of two, one may be left out
+-- ---- of two, one may be dominated
 
 module _ {X : Type 0} where
-  -- where the second may be taken, the first costs no more, or less by so much
-  abbrev pub Beats : ℕ → (p q : Priced X) → Type 0
-  Beats more p q = (y : ℕ × X) → q ≡ Some y → (x : ℕ × X) × (p ≡ Some x) × (x.0 + more ≤ y.0)
+  -- if the second may be taken, the first costs no more, or is cheaper by at least this much
+  abbrev pub Dominates : ℕ → (p q : Priced X) → Type 0
+  Dominates more p q = (y : ℕ × X) → q ≡ Some y → (x : ℕ × X) × (p ≡ Some x) × (x.0 + more ≤ y.0)
 
   beaten_after : (x y : ℕ × X) (b : Priced X) → x.0 ≤ y.0 → cheaper (Some x) (cheaper b (Some y)) ≡ cheaper (Some x) b
   beaten_after x y None low = keeps_first x y low
@@ -31,38 +31,38 @@ module _ {X : Type 0} where
     | inr h ↦ ap (cheaper (Some y)) (keeps_first z x h) ∙ takes_second y z (omega (arith, h, low)) ∙ sym (keeps_first z x h)
   ]
 
-  pub absorbed_after : (p b q : Priced X) → Beats 0 p q → cheaper p (cheaper b q) ≡ cheaper p b
-  absorbed_after p b None beats = ap (cheaper p) (cheaper_none b)
-  absorbed_after p b (Some y) beats =
-      let x = beats y refl in
+  pub absorbed_after : (p b q : Priced X) → Dominates 0 p q → cheaper p (cheaper b q) ≡ cheaper p b
+  absorbed_after p b None dominates = ap (cheaper p) (cheaper_none b)
+  absorbed_after p b (Some y) dominates =
+      let x = dominates y refl in
       ap (λ o. cheaper o (cheaper b (Some y))) x.1 ∙ beaten_after x.0 y b (omega (arith, x.2)) ∙ ap (λ o. cheaper o b) (sym x.1)
 
-  pub absorbed_before : (q b p : Priced X) → Beats 1 p q → cheaper q (cheaper b p) ≡ cheaper b p
-  absorbed_before None b p beats = refl
-  absorbed_before (Some y) b p beats =
-      let x = beats y refl in
+  pub absorbed_before : (q b p : Priced X) → Dominates 1 p q → cheaper q (cheaper b p) ≡ cheaper b p
+  absorbed_before None b p dominates = refl
+  absorbed_before (Some y) b p dominates =
+      let x = dominates y refl in
       ap (λ o. cheaper (Some y) (cheaper b o)) x.1 ∙ beaten_before y x.0 b x.2 ∙ ap (cheaper b) (sym x.1)
 
 module _ {Y X : Type 0} (f : Y → Priced X) where
-  without_later : (one other : Y) (between : List Y) → Beats 0 (f one) (f other) → cheapest f (one ∷ between ++ other ∷ []) ≡ cheapest f (one ∷ between)
-  without_later one other between beats =
+  without_later : (one other : Y) (between : List Y) → Dominates 0 (f one) (f other) → cheapest f (one ∷ between ++ other ∷ []) ≡ cheapest f (one ∷ between)
+  without_later one other between dominates =
       ap (cheaper (f one)) (cheapest_both f between (other ∷ []) ∙ ap (cheaper (cheapest f between)) (cheaper_none (f other)))
-      ∙ absorbed_after (f one) (cheapest f between) (f other) beats
+      ∙ absorbed_after (f one) (cheapest f between) (f other) dominates
 
-  without_earlier : (one other : Y) (between : List Y) → Beats 1 (f one) (f other) → cheapest f (other ∷ between ++ one ∷ []) ≡ cheapest f (between ++ one ∷ [])
-  without_earlier one other between beats =
+  without_earlier : (one other : Y) (between : List Y) → Dominates 1 (f one) (f other) → cheapest f (other ∷ between ++ one ∷ []) ≡ cheapest f (between ++ one ∷ [])
+  without_earlier one other between dominates =
       let last = cheapest_both f between (one ∷ []) ∙ ap (cheaper (cheapest f between)) (cheaper_none (f one)) in
-      ap (cheaper (f other)) last ∙ absorbed_before (f other) (cheapest f between) (f one) beats ∙ sym last
+      ap (cheaper (f other)) last ∙ absorbed_before (f other) (cheapest f between) (f one) dominates ∙ sym last
 
-  pub new_left_out : (rows : List Y) (place : ℕ) (d row : Y) → place < length rows → Beats 0 (f (slice_index_or rows place d)) (f row) → cheapest f rows ≡ cheapest f (rows ++ row ∷ [])
-  new_left_out [] place d row inside beats = absurd (omega (arith, inside))
-  new_left_out (y ∷ ys) zero d row inside beats = sym (without_later y row ys beats)
-  new_left_out (y ∷ ys) (suc place) d row inside beats = ap (cheaper (f y)) (new_left_out ys place d row (omega (arith, inside)) beats)
+  pub new_dominated : (rows : List Y) (index : ℕ) (d row : Y) → index < length rows → Dominates 0 (f (slice_index_or rows index d)) (f row) → cheapest f rows ≡ cheapest f (rows ++ row ∷ [])
+  new_dominated [] index d row inside dominates = absurd (omega (arith, inside))
+  new_dominated (y ∷ ys) zero d row inside dominates = sym (without_later y row ys dominates)
+  new_dominated (y ∷ ys) (suc index) d row inside dominates = ap (cheaper (f y)) (new_dominated ys index d row (omega (arith, inside)) dominates)
 
-  pub old_left_out : (rows : List Y) (place : ℕ) (d row out : Y) → place < length rows → f out ≡ None → Beats 1 (f row) (f (slice_index_or rows place d)) → cheapest f (slice_set rows place out ++ row ∷ []) ≡ cheapest f (rows ++ row ∷ [])
-  old_left_out [] place d row out inside none beats = absurd (omega (arith, inside))
-  old_left_out (y ∷ ys) zero d row out inside none beats = ap (λ o. cheaper o (cheapest f (ys ++ row ∷ []))) none ∙ sym (without_earlier row y ys beats)
-  old_left_out (y ∷ ys) (suc place) d row out inside none beats = ap (cheaper (f y)) (old_left_out ys place d row out (omega (arith, inside)) none beats)
+  pub old_dominated : (rows : List Y) (index : ℕ) (d row dropped : Y) → index < length rows → f dropped ≡ None → Dominates 1 (f row) (f (slice_index_or rows index d)) → cheapest f (slice_set rows index dropped ++ row ∷ []) ≡ cheapest f (rows ++ row ∷ [])
+  old_dominated [] index d row dropped inside none dominates = absurd (omega (arith, inside))
+  old_dominated (y ∷ ys) zero d row dropped inside none dominates = ap (λ o. cheaper o (cheapest f (ys ++ row ∷ []))) none ∙ sym (without_earlier row y ys dominates)
+  old_dominated (y ∷ ys) (suc index) d row dropped inside none dominates = ap (cheaper (f y)) (old_dominated ys index d row dropped (omega (arith, inside)) none dominates)
 
 -- ---- within a limit
 
@@ -73,7 +73,7 @@ module _ {X : Type 0} (limit : ℕ) where
   pub stays_within : (p : ℕ × X) → p.0 ≤ limit → within limit (Some p) ≡ Some p
   stays_within p h = rw (le-ltb limit p.0 h)
 
-  -- what is within the limit is there, and costs so much at most
+  -- what is within the limit exists, and costs at most that
   pub is_within : (p : Priced X) (y : ℕ × X) → within limit p ≡ Some y → (p ≡ Some y) × (y.0 ≤ limit)
   is_within None y is = absurd cc
   is_within (Some p) y is = elim (cases_lt limit p.0) [
@@ -105,19 +105,19 @@ module _ {X : Type 0} (limit : ℕ) where
 
 -- ---- entries
 
--- what costs more than the limit by itself
-pub dear_is_none : (days : Days) (e : Entry) → days.limit < e.cost → best_of days e ≡ None
+-- an entry whose own cost is above the limit is pruned
+pub pruned_is_none : (days : Days) (e : Entry) → days.limit < e.cost → best_of days e ≡ None
 unfolding best_of
-dear_is_none days e dear = go (best_of_offers days.case days.nurse days.offers days.left days.day e.state)
+pruned_is_none days e pruned = go (best_of_offers days.case days.nurse days.offers days.left days.day e.state)
   where
     go : (o : Priced (List Offer)) → within days.limit (raised e.cost (λ rest. (row_of days e).offers ++ rest) o) ≡ None
     go None = refl
-    go (Some p) = beyond days.limit (e.cost + p.0, (row_of days e).offers ++ p.1) (omega (arith, dear))
+    go (Some p) = beyond days.limit (e.cost + p.0, (row_of days e).offers ++ p.1) (omega (arith, pruned))
 
--- of two with one state
-pub same_beats : (days : Days) (more : ℕ) (one other : Entry) → one.state ≡ other.state → one.cost + more ≤ other.cost → Beats more (best_of days one) (best_of days other)
+-- of two entries with the same state
+pub same_dominates : (days : Days) (more : ℕ) (one other : Entry) → one.state ≡ other.state → one.cost + more ≤ other.cost → Dominates more (best_of days one) (best_of days other)
 unfolding best_of
-same_beats days more one other same low y is =
+same_dominates days more one other same low y is =
     by (best_of_offers days.case days.nurse days.offers days.left days.day other.state) (best_of_offers days.case days.nurse days.offers days.left days.day one.state) (ap (best_of_offers days.case days.nurse days.offers days.left days.day) same) (is_within days.limit (raised other.cost (λ rest. (row_of days other).offers ++ rest) (best_of_offers days.case days.nurse days.offers days.left days.day other.state)) y is)
   where
     Found : Priced (List Offer) → Type 0
@@ -132,13 +132,13 @@ same_beats days more one other same low y is =
         let cost : other.cost + p.0 ≡ y.0 = ap (cost_or 0) found.0 in
         subst Found (sym e) ((one.cost + p.0, (row_of days one).offers ++ p.1), stays_within days.limit (one.cost + p.0, (row_of days one).offers ++ p.1) (omega (arith, cost, low, found.1)), omega (arith, cost, low))
 
--- an entry with another cost
-pub linked_by : (days : Days) (d : ℕ) (e out : Entry) → out.before ≡ e.before → out.offer ≡ e.offer → IsLinked days.offers days.earlier d e → IsLinked days.offers days.earlier d out
-linked_by days zero e out before offer is = is
-linked_by days (suc d) e out before offer is = transport (λ i. (sym before i < length days.earlier) × (sym offer i < length (days.offers d)) × IsLinked days.offers days.earlier d (entry_numbered days.earlier (sym before i))) is
+-- an entry with its cost changed
+pub linked_by : (days : Days) (d : ℕ) (e dropped : Entry) → dropped.before ≡ e.before → dropped.offer ≡ e.offer → IsLinked days.offers days.earlier d e → IsLinked days.offers days.earlier d dropped
+linked_by days zero e dropped before offer is = is
+linked_by days (suc d) e dropped before offer is = transport (λ i. (sym before i < length days.earlier) × (sym offer i < length (days.offers d)) × IsLinked days.offers days.earlier d (entry_numbered days.earlier (sym before i))) is
 
-pub marked_entry : (days : Days) (e out : Entry) → IsEntryOf days e → out.state ≡ e.state → out.before ≡ e.before → out.offer ≡ e.offer → IsEntryOf days out
-marked_entry days e out is state before offer = record {
+pub marked_entry : (days : Days) (e dropped : Entry) → IsEntryOf days e → dropped.state ≡ e.state → dropped.before ≡ e.before → dropped.offer ≡ e.offer → IsEntryOf days dropped
+marked_entry days e dropped is state before offer = record {
   fits = ap (fits_sizes (sizes_of days.case days.nurse)) state ∙ is.fits;
-  linked = linked_by days days.day e out before offer is.linked;
+  linked = linked_by days days.day e dropped before offer is.linked;
 }

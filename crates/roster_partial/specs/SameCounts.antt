@@ -3,48 +3,60 @@ use Rattle.std.proofs.Common.{◌≡◌, ◌∙◌, ◌+◌, ◌*◌, ◌<◌, �
 use Rattle.std.specs.List.{All}
 use Rattle.roster_instance.specs.Meaning.{Meaning, day_count}
 use Rattle.roster_rules.proofs.RunSums.{sum_same}
-use Rattle.roster_state.specs.declared.area.Area.{Area}
+use Rattle.roster_state.specs.declared.state_box.StateBox.{StateBox}
 use Rattle.roster_state.specs.Codes.{sizes_of}
 use Rattle.roster_offers.specs.declared.offer.Offer.{Offer}
-use Rattle.roster_search.specs.Counts.{states_on}
-use Rattle.roster_search.specs.Search.{areas_on, search_day, standing_steps, steps_on}
-use Rattle.roster_search.specs.Tables.{LeadsOn}
-use Rattle.roster_floors.specs.Floors.{floor_count, floor_steps}
+use Rattle.roster_tables.specs.Counts.{states_on}
+use Rattle.roster_tables.specs.Search.{boxes_on, search_day, reachable_extensions, extensions_on}
+use Rattle.roster_tables.specs.Tables.{LeadsOn}
+use Rattle.roster_completion.specs.CompletionBounds.{completion_count, completion_extensions}
 use Rattle.roster_partial.specs.Counts.{CountsSearch}
 
-module _ (c : Meaning) (n : ℕ) (f g : ℕ → List Offer) (same : (day : ℕ) → day < day_count c → f day ≡ g day) where
-  same_states : (areas : List (List Area)) → standing_steps c n f areas ≡ standing_steps c n g areas
-  same_states areas = sum_same (day_count c) (steps_on c n f areas) (steps_on c n g areas) (λ day within. ap (λ (xs : List Offer). states_on c n (areas_on areas day) * length xs) (same day within))
+module _ (c : Meaning) (n : ℕ) (f g : ℕ → List Offer)
+    (same : (day : ℕ) → day < day_count c → f day ≡ g day) where
+  same_states : (boxes : List (List StateBox))
+      → reachable_extensions c n f boxes ≡ reachable_extensions c n g boxes
+  same_states boxes =
+      sum_same (day_count c) (extensions_on c n f boxes) (extensions_on c n g boxes) (λ day within.
+      ap (λ (xs : List Offer). states_on c n (boxes_on boxes day) * length xs) (same day within))
 
-  same_floors : floor_steps c n f ≡ floor_steps c n g
-  same_floors = ap (λ m. floor_count (sizes_of c n) * m) (sum_same (day_count c) (λ d. length (f d)) (λ d. length (g d)) (λ day within. ap (λ (xs : List Offer). length xs) (same day within)))
+  same_bounds : completion_extensions c n f ≡ completion_extensions c n g
+  same_bounds =
+      ap (λ m. completion_count (sizes_of c n) * m) (sum_same (day_count c) (λ d. length (f d))
+      (λ d. length (g d)) (λ day within. ap (λ (xs : List Offer). length xs) (same day within)))
 
-  states_go : (areas : List (List Area)) (between after : ℕ) → (after ≡ between) ⊎ (after ≡ between + standing_steps c n f areas) → (after ≡ between) ⊎ (after ≡ between + standing_steps c n g areas)
-  states_go areas between after (inl none) = inl none
-  states_go areas between after (inr states) = inr (omega (arith, states, same_states areas))
+  states_go : (boxes : List (List StateBox)) (between after : ℕ)
+      → (after ≡ between) ⊎ (after ≡ between + reachable_extensions c n f boxes)
+      → (after ≡ between) ⊎ (after ≡ between + reachable_extensions c n g boxes)
+  states_go boxes between after (inl none) = inl none
+  states_go boxes between after (inr states) = inr (omega (arith, states, same_states boxes))
 
   pub counts_same : (before after : ℕ) → CountsSearch c n f before after → CountsSearch c n g before after
   counts_same before after counts = record {
-    areas = counts.areas;
-    standing = record {
-      start = counts.standing.start;
-      first = counts.standing.first;
-      lead = λ day within. subst (All (LeadsOn c (search_day c n day) (areas_on counts.areas day) (areas_on counts.areas (day + 1)))) (same day within) (counts.standing.lead day within);
-      long = counts.standing.long;
+    boxes = counts.boxes;
+    are_reachable = record {
+      start = counts.are_reachable.start;
+      first = counts.are_reachable.first;
+      lead =
+          λ day within. subst (All (LeadsOn c (search_day c n day) (boxes_on counts.boxes day)
+          (boxes_on counts.boxes (day + 1)))) (same day within) (counts.are_reachable.lead day within);
+      long = counts.are_reachable.long;
     };
     between = counts.between;
     partial = record {
-      floored = counts.partial.floored;
-      floors = record {
-        sets = counts.partial.floors.sets;
-        followed = counts.partial.floors.followed;
-        few = counts.partial.floors.few;
-        brief = counts.partial.floors.brief;
-        counted = counts.partial.floors.counted ∙ ap (λ m. before + counts.partial.floors.sets * m + counts.partial.floors.followed) same_floors;
+      after_bounds = counts.partial.after_bounds;
+      completion_bounds = record {
+        sets = counts.partial.completion_bounds.sets;
+        followed = counts.partial.completion_bounds.followed;
+        few = counts.partial.completion_bounds.few;
+        brief = counts.partial.completion_bounds.brief;
+        counted =
+            counts.partial.completion_bounds.counted ∙ ap (λ m. before + counts.partial.completion_bounds.sets
+            * m + counts.partial.completion_bounds.followed) same_bounds;
       };
       from = counts.partial.from;
       rows = counts.partial.rows;
     };
-    left = omega (arith, counts.left, same_states counts.areas);
-    states = states_go counts.areas counts.between after counts.states;
+    left = omega (arith, counts.left, same_states counts.boxes);
+    states = states_go counts.boxes counts.between after counts.states;
   }

@@ -1,12 +1,13 @@
-//! What earlier searches tell of the next one.
+//! What earlier searches suggest for the next one.
 //!
-//! Only time depends on it: whichever rates and limits a search begins with, it finds the same row.
+//! Only the time depends on it: whichever rates and limits a search begins with, it finds the same row.
 
-use crate::rates::{BestFloors, Guess};
+use crate::rates::{BestBounds, Guess};
 use roster_instance::{MAX_CONTRACTS, MAX_NURSES};
-use roster_offers::RowSearch;
+use roster_offers::SearchInput;
 
-/// How often in a row partial rows found nothing for a nurse, and how many searches go to the tables at once for that.
+/// How many searches of a nurse in succession the partial rows failed at, and how many of her next searches
+/// skip them for that.
 #[derive(Clone, Copy)]
 struct Misses {
     count: u8,
@@ -16,18 +17,18 @@ struct Misses {
 /// None yet.
 const NO_MISSES: Misses = Misses { count: 0, waits: 0 };
 
-/// After so many misses in a row no further one makes a nurse wait longer.
+/// After this number of misses in succession, further ones don't make a nurse wait longer.
 const MOST_MISSES: u8 = 3;
 
-/// For each nurse what her last search tells, and for each contract what the last search for a nurse with it does; nothing before the
-/// first.
+/// For each nurse a guess by her last search, and for each contract a guess by the last search for a nurse
+/// who has it; nothing before the first search.
 pub(crate) struct Guesses {
     nurses: [Option<Guess>; MAX_NURSES],
     contracts: [Option<Guess>; MAX_CONTRACTS],
     misses: [Misses; MAX_NURSES],
 }
 
-// By hand, so that who drops the guesses has one call to prove.
+// Written by hand, so that code that drops the guesses has one call to prove.
 impl Drop for Guesses {
     fn drop(self) {
         let Guesses {
@@ -39,7 +40,7 @@ impl Drop for Guesses {
 }
 
 impl Guesses {
-    /// Nothing is known of any search.
+    /// Before the first search.
     pub(crate) fn none() -> Guesses {
         Guesses {
             nurses: [None; MAX_NURSES],
@@ -48,8 +49,8 @@ impl Guesses {
         }
     }
 
-    /// Whether a search for the nurse goes to the tables at once, since partial rows found nothing in earlier ones. Each search that
-    /// does is one fewer to come.
+    /// Whether a search for the nurse skips the partial rows, since they failed in earlier ones. Each search
+    /// that does is one fewer to come.
     pub(crate) fn waits(&mut self, nurse: usize) -> bool {
         match self.misses.get_mut(nurse) {
             Some(misses) if misses.waits > 0 => {
@@ -60,8 +61,8 @@ impl Guesses {
         }
     }
 
-    /// Partial rows have found nothing for the nurse: after the first time one search goes to the tables at once, after the second in a
-    /// row three, and then seven.
+    /// Records that the partial rows failed for the nurse. After the first time her next search skips them,
+    /// after the second time in succession the next three, and from the third on the next seven.
     pub(crate) fn miss(&mut self, nurse: usize) {
         if let Some(misses) = self.misses.get_mut(nurse) {
             let count = misses.count.saturating_add(1).min(MOST_MISSES);
@@ -74,8 +75,9 @@ impl Guesses {
         }
     }
 
-    /// What is known for a search: by the nurse's last one, else by the last one for a nurse with the same contract.
-    pub(crate) fn of(&self, search: &RowSearch<'_>) -> Option<Guess> {
+    /// The guess for a search: by the nurse's last one, else by the last one for a nurse with the same
+    /// contract.
+    pub(crate) fn of(&self, search: &SearchInput<'_>) -> Option<Guess> {
         match self.nurses.get(search.nurse) {
             Some(Some(guess)) => Some(*guess),
             _ => match self.contracts.get(search.case.contract(search.nurse)) {
@@ -85,9 +87,10 @@ impl Guesses {
         }
     }
 
-    /// Keeps what a search tells that had these floors and found a row at this cost. Where their two numbers were farther apart than
-    /// those of the nurse's last search, it takes some searches until that is held good enough.
-    pub(crate) fn learn(&mut self, search: &RowSearch<'_>, best: &BestFloors, cost: u32) {
+    /// Records a search that had these completion bounds and found a row at this cost. If its spread is
+    /// larger than that of the nurse's last search, the recorded one grows by only 1, so it takes several
+    /// searches until a larger spread counts as good enough.
+    pub(crate) fn learn(&mut self, search: &SearchInput<'_>, best: &BestBounds, cost: u32) {
         let spread = best.high.saturating_sub(best.low);
         let spread = match self.nurses.get(search.nurse) {
             Some(Some(before)) => spread.min(before.spread.saturating_add(1)),

@@ -1,9 +1,14 @@
-//! The search for a nurse's best row over partial rows: the first days of rows, each with its state and its cost.
+//! The search for a nurse's best row by partial rows: the first days of rows, each with its state and its
+//! cost.
 //!
-//! What a list of them stands for is defined in `specs/Rows.antt`: the best row that begins as one of them, if it costs no more than a
-//! limit. `put` and `leave_out` keep that, `add_day` keeps it from one day to the next, and `row_within` reads the row in the end.
-//! `set_best_floors` sets the floors by which partial rows are left out. `search_row` tries one limit after another, and then the tables
-//! of `roster_search`. A `Workspace` is what a search writes into: that of `roster_offers`, with the tables of such a search.
+//! What a list of partial rows stands for is defined in `specs/Rows.antt`: the best row that begins as one of
+//! them, if it costs no more than a limit. `put` and `drop_dominated` keep this when a partial row is
+//! dominated, `is_pruned` says which are pruned by their completion bound, `add_day` goes from one day to the
+//! next, and `row_within` reads the row in the end. `set_best_bounds` sets the completion bounds.
+//! `search_row` tries one limit after another, and if none is high enough or the partial rows run out of
+//! capacity or of extensions, it falls back to the label tables of `roster_tables`. `RowSearcher` is this
+//! search behind the trait `SearchesRows` of `roster_offers`, and a `Workspace` is the memory of such a
+//! search.
 #![tactic(auto)]
 
 mod all_days;
@@ -17,4 +22,4 @@ mod rows;
 mod search;
 mod workspace;
 
-pub use workspace::{PartialTables, Workspace};
+pub use workspace::{RowSearcher, Workspace};

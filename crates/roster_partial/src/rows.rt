@@ -1,15 +1,16 @@
-//! A list of partial rows, in the cells of a table of labels.
+//! A list of partial rows, kept in the cells of a label table.
 //!
-//! The first cell says how many there are. Each takes four: what its days cost; the two runs of its state; the assignments and the worked
-//! weekends; and the place before, the place of the offer, and the last shift.
+//! The first cell holds the number of partial rows. Each of them takes four cells: what its days cost; the
+//! two runs of its state; its assignments and worked weekends; and the index of the partial row that it
+//! extends, the index of the offer, and the last shift.
 
 ghost use Rattle.std.specs.Prelude.{◌≡◌, [], ◌∷◌, ◌++◌, ◌+◌, ◌*◌, ◌/◌, ◌%◌, ◌<◌, ◌≤◌, All, length, slice_set, true, false};
 ghost use Rattle.roster_offers.specs.Lists.{no_row};
 ghost use Rattle.roster_state.specs.Codes.{shift_digit};
 ghost use Rattle.roster_partial.specs.Rows.{AreKept, AreMadeFor, Days, HaveSameBest, IsEntryOf, count_in, day_in, earlier_in, entry_numbered, most_rows, rows_in};
 
-use roster_search::NO_ROW;
 use roster_state::{Block, State};
+use roster_tables::NO_ROW;
 
 /// How many partial rows a list holds at most, those of all days together.
 pub const MOST_ROWS: usize = 65_536;
@@ -17,39 +18,41 @@ pub const MOST_ROWS: usize = 65_536;
 /// How many cells a partial row takes.
 pub const ROW_CELLS: usize = 4;
 
-/// Two numbers stand in a cell, one of them by 65,536.
+/// A cell holds two numbers, one of them multiplied by this.
 const HALF: u32 = 65_536;
 
-/// More than the greatest number of a last shift, and than the greatest place of an offer among those of a day.
+/// More than the greatest number of a last shift, and than the greatest index of an offer among those of a
+/// day.
 const SMALL: u32 = 16;
 
-/// A partial row: the state to which it leads, what its days cost, and how it goes on one of the day before. It is left out where its
-/// cost is that of no row.
+/// A partial row: the state to which it leads, what its days cost, and which partial row of the day before it
+/// extends by which offer. If its cost is that of no row, it was dominated.
 #[derive(Clone, Copy, Default)]
 pub struct Entry {
     pub state: State,
-    /// The place in the list of the one of the day before that it goes on.
+    /// The index in the list of the partial row of the day before that it extends.
     pub before: u16,
     pub cost: u32,
-    /// The place among that day's offers of the one by which it does.
+    /// The index of the offer among those of that day.
     pub offer: u8,
 }
 
-/// How a partial row goes on: the place in the list of the one of the day before, and the place of the offer among those of its day.
+/// How a partial row extends one of the day before: the index of that one in the list, and the index of the
+/// offer among those of the day.
 #[derive(Clone, Copy)]
 pub struct Link {
     pub before: usize,
     pub offer: usize,
 }
 
-/// How many remainders of states' numbers are told apart.
-pub const SEEN: usize = 8192;
+/// How many remainders of state codes are distinguished.
+pub const REMAINDERS: usize = 8192;
 
-/// For each remainder of a state's number, the place among its day's partial rows of the one that was put last with it. That may be one
-/// of another state, or of another day.
-pub type Seen = [u16; SEEN];
+/// For each remainder of a state's code, the index among its day's partial rows of the last one that was
+/// appended with it. That one may be of another state, or of another day.
+pub type RecentRows = [u16; REMAINDERS];
 
-/// Begins a list.
+/// Begins an empty list.
 pub fn clear_rows(cells: &mut [u32])
     requires { 0 < length cells.old }
     ensures count { count_in cells.new ≡ 0 }
@@ -69,23 +72,23 @@ pub fn row_count(cells: &[u32]) -> usize
 
 /// What the days of a partial row cost.
 #[inline(always)]
-pub fn cost_at(cells: &[u32], place: usize) -> u32
+pub fn cost_at(cells: &[u32], index: usize) -> u32
     requires kept { AreKept cells.now }
-    requires inside { place < count_in cells.now }
-    ensures { result ≡ (entry_numbered (rows_in cells.now) place).cost }
+    requires inside { index < count_in cells.now }
+    ensures { result ≡ (entry_numbered (rows_in cells.now) index).cost }
 {
-    cells[ROW_CELLS * place + 1]
+    cells[ROW_CELLS * index + 1]
 }
 
-/// How a partial row goes on one of the day before.
+/// How a partial row extends one of the day before.
 #[inline(always)]
-pub fn link_at(cells: &[u32], place: usize) -> Link
+pub fn link_at(cells: &[u32], index: usize) -> Link
     requires kept { AreKept cells.now }
-    requires inside { place < count_in cells.now }
-    ensures before { result.before ≡ (entry_numbered (rows_in cells.now) place).before }
-    ensures offer { result.offer ≡ (entry_numbered (rows_in cells.now) place).offer }
+    requires inside { index < count_in cells.now }
+    ensures before { result.before ≡ (entry_numbered (rows_in cells.now) index).before }
+    ensures offer { result.offer ≡ (entry_numbered (rows_in cells.now) index).offer }
 {
-    let link = cells[ROW_CELLS * place + 4] / SMALL;
+    let link = cells[ROW_CELLS * index + 4] / SMALL;
     Link {
         before: (link / SMALL) as usize,
         offer: (link % SMALL) as usize,
@@ -94,12 +97,12 @@ pub fn link_at(cells: &[u32], place: usize) -> Link
 
 /// The state to which a partial row leads.
 #[inline(always)]
-pub fn row_state(cells: &[u32], place: usize) -> State
+pub fn row_state(cells: &[u32], index: usize) -> State
     requires kept { AreKept cells.now }
-    requires inside { place < count_in cells.now }
-    ensures { result ≡ (entry_numbered (rows_in cells.now) place).state }
+    requires inside { index < count_in cells.now }
+    ensures { result ≡ (entry_numbered (rows_in cells.now) index).state }
 {
-    let first = ROW_CELLS * place;
+    let first = ROW_CELLS * index;
     let (runs, counts) = (cells[first + 2], cells[first + 3]);
     let last = cells[first + 4] % SMALL;
     Block::of_runs(last, (runs / HALF) as u16, (runs % HALF) as u16)
@@ -109,13 +112,13 @@ pub fn row_state(cells: &[u32], place: usize) -> State
 
 /// Whether a partial row leads to a state.
 #[inline(always)]
-fn leads_to(cells: &[u32], place: usize, state: &State) -> bool
+fn leads_to(cells: &[u32], index: usize, state: &State) -> bool
     requires kept { AreKept cells.now }
-    requires inside { place < count_in cells.now }
+    requires inside { index < count_in cells.now }
     requires last { shift_digit state.now.last < 16 }
-    ensures { result ≡ true → (entry_numbered (rows_in cells.now) place).state ≡ state.now }
+    ensures { result ≡ true → (entry_numbered (rows_in cells.now) index).state ≡ state.now }
 {
-    let first = ROW_CELLS * place;
+    let first = ROW_CELLS * index;
     if cells[first + 2] != runs_cell(state) {
         return false;
     }
@@ -125,7 +128,7 @@ fn leads_to(cells: &[u32], place: usize, state: &State) -> bool
     cells[first + 4] % SMALL == state.last_number()
 }
 
-/// The two runs of a state in a cell.
+/// The cell with the two runs of a state.
 #[inline(always)]
 fn runs_cell(state: &State) -> u32
     ensures run { result / 65536 ≡ state.now.run }
@@ -134,7 +137,7 @@ fn runs_cell(state: &State) -> u32
     state.run() as u32 * HALF + state.shift_run() as u32
 }
 
-/// The assignments and the worked weekends of a state in a cell.
+/// The cell with the assignments and the worked weekends of a state.
 #[inline(always)]
 fn counts_cell(state: &State) -> u32
     ensures assignments { result / 65536 ≡ state.now.assignments }
@@ -143,19 +146,19 @@ fn counts_cell(state: &State) -> u32
     state.assignments() as u32 * HALF + state.weekends() as u32
 }
 
-/// Marks a partial row as one that is left out: it costs what no row does.
+/// Marks a partial row as dominated: its cost becomes that of no row.
 #[inline(always)]
-fn mark_out(cells: &mut [u32], place: usize)
+fn mark_dominated(cells: &mut [u32], index: usize)
     requires kept { AreKept cells.old }
-    requires inside { place < count_in cells.old }
+    requires inside { index < count_in cells.old }
     ensures count { count_in cells.new ≡ count_in cells.old }
-    ensures rows { rows_in cells.new ≡ slice_set (rows_in cells.old) place
-        (record (entry_numbered (rows_in cells.old) place) { cost = no_row }) }
+    ensures rows { rows_in cells.new ≡ slice_set (rows_in cells.old) index
+        (record (entry_numbered (rows_in cells.old) index) { cost = no_row }) }
 {
-    cells[ROW_CELLS * place + 1] = NO_ROW;
+    cells[ROW_CELLS * index + 1] = NO_ROW;
 }
 
-/// Puts a partial row at the end of the list.
+/// Appends a partial row to the list.
 #[inline(always)]
 pub fn push_row(cells: &mut [u32], more: &Entry)
     requires cells { 5 + 4 * count_in cells.old ≤ length cells.old }
@@ -165,21 +168,21 @@ pub fn push_row(cells: &mut [u32], more: &Entry)
     ensures count { count_in cells.new ≡ count_in cells.old + 1 }
     ensures rows { rows_in cells.new ≡ rows_in cells.old ++ more.now ∷ [] }
 {
-    let place = cells[0] as usize;
-    let first = ROW_CELLS * place;
+    let index = cells[0] as usize;
+    let first = ROW_CELLS * index;
     let link = more.before as u32 * SMALL + more.offer as u32;
     cells[first + 1] = more.cost;
     cells[first + 2] = runs_cell(&more.state);
     cells[first + 3] = counts_cell(&more.state);
     cells[first + 4] = link * SMALL + more.state.last_number();
-    cells[0] = place as u32 + 1;
+    cells[0] = index as u32 + 1;
 }
 
-/// Compares a partial row of a day, by its place among those of the day, which begin at `first`, with one more. If both lead to one state,
-/// the dearer is left out, of equally dear ones the later. The answer is whether that is the new one. No place need be that of a partial
-/// row.
+/// Compares a new partial row with one of its day, given by its index among those of the day, which begin at
+/// `first`. If both lead to the same state, the dearer one is dominated, and the later one if they are
+/// equally dear. Returns whether that is the new one. The index need not be that of a partial row.
 #[inline(always)]
-pub fn leave_out(cells: &mut [u32], first: usize, place: usize, more: &Entry) -> bool
+pub fn drop_dominated(cells: &mut [u32], first: usize, index: usize, more: &Entry) -> bool
     requires kept { AreKept cells.old }
     requires first { first ≤ count_in cells.old }
     requires last { shift_digit more.now.state.last < 16 }
@@ -188,23 +191,23 @@ pub fn leave_out(cells: &mut [u32], first: usize, place: usize, more: &Entry) ->
     ensures stays { result ≡ false → (days : Days) → AreMadeFor days cells.old first →
         HaveSameBest days (day_in cells.new first ++ more.now ∷ [])
         (day_in cells.old first ++ more.now ∷ []) }
-    ensures left_out { result ≡ true → (days : Days) → AreMadeFor days cells.old first →
+    ensures dominated { result ≡ true → (days : Days) → AreMadeFor days cells.old first →
         HaveSameBest days (day_in cells.new first) (day_in cells.old first ++ more.now ∷ []) }
     ensures entries { (days : Days) → AreMadeFor days cells.old first →
         All (IsEntryOf days) (day_in cells.new first) }
     ensures front { earlier_in cells.new first ≡ earlier_in cells.old first }
     ensures count { count_in cells.new ≡ count_in cells.old }
 {
-    if place >= row_count(cells) - first {
+    if index >= row_count(cells) - first {
         return false;
     }
-    let other = first + place;
+    let other = first + index;
     if !leads_to(cells, other, &more.state) {
         return false;
     }
     if cost_at(cells, other) <= more.cost {
         return true;
     }
-    mark_out(cells, other);
+    mark_dominated(cells, other);
     false
 }

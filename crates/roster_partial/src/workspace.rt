@@ -1,49 +1,50 @@
-//! The memory of a search by partial rows and tables.
+//! The memory of a search by partial rows and label tables.
 
 use crate::search::{Hints, search_row};
 use roster_instance::Choice;
-use roster_offers::{RowSearch, RowTables};
-use roster_search::{DayAreas, Tables};
+use roster_offers::{SearchInput, SearchesRows};
 use roster_state::Meter;
+use roster_tables::{DayBoxes, Tables};
 use std::alloc::{AllocError, Global};
 
-/// What searches by partial rows first, and else by tables. Floors and partial rows stand in the cells of the tables.
-pub struct PartialTables {
+/// A search by partial rows first, and by the label tables if these fail. The completion bounds and the
+/// partial rows are kept in the cells of the tables.
+pub struct RowSearcher {
     hints: Hints,
-    areas: DayAreas,
+    boxes: DayBoxes,
     tables: Tables,
 }
 
-/// What a search for a best row writes into: the tables of labels, the pointers, and one row, which grow with the case; and beside them,
-/// of one size for each case, 111 kB: the offers of a nurse (29 kB), the areas of the days (53 kB), hints (28 kB) and room for a stretch
-/// (1 kB).
-pub type Workspace = roster_offers::Workspace<PartialTables>;
+/// What a search for a best row writes into. The label tables, the pointers and one row grow with the case.
+/// The rest is arrays of the same size for every case, 111 kB: the offers of a nurse (29 kB), the boxes of
+/// the days (53 kB), the hints (28 kB) and a span (1 kB).
+pub type Workspace = roster_offers::Workspace<RowSearcher>;
 
-// By hand, so that who drops the tables has one call to prove.
-impl Drop for PartialTables {
+// Written by hand, so that code that drops the tables has one call to prove.
+impl Drop for RowSearcher {
     fn drop(self) {
-        let PartialTables {
+        let RowSearcher {
             hints: _,
-            areas: _,
+            boxes: _,
             tables: _,
         } = self;
     }
 }
 
-impl RowTables for PartialTables {
+impl SearchesRows for RowSearcher {
     ghost use Rattle.roster_partial.specs.Counts.{CountsSearch};
     ghost use Rattle.roster_partial.specs.SameCounts.{counts_same};
 
-    ghost room = { λ t. t.tables };
+    ghost capacity = { λ t. t.tables };
 
     ghost IsCounted = { λ c n offers before after. CountsSearch c n offers before after };
 
     ghost counted_same = { counts_same };
 
-    fn for_states(alloc: Global, states: usize, days: usize) -> Result<PartialTables, AllocError> {
-        Ok(PartialTables {
+    fn for_states(alloc: Global, states: usize, days: usize) -> Result<RowSearcher, AllocError> {
+        Ok(RowSearcher {
             hints: Hints::none(),
-            areas: DayAreas::new(),
+            boxes: DayBoxes::new(),
             tables: Tables::new(alloc, states, days)?,
         })
     }
@@ -56,11 +57,11 @@ impl RowTables for PartialTables {
         self.tables.pointers()
     }
 
-    fn search(&mut self, search: &RowSearch<'_>, row: &mut [Choice], meter: &mut Meter) -> u32 {
+    fn search(&mut self, search: &SearchInput<'_>, row: &mut [Choice], meter: &mut Meter) -> u32 {
         search_row(
             search,
             &mut self.hints,
-            &mut self.areas,
+            &mut self.boxes,
             &mut self.tables,
             row,
             meter,

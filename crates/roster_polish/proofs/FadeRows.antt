@@ -1,4 +1,4 @@
--- Whatever places pay in a fade, the row that it finds for a nurse fits the case and keeps the frozen days.
+-- Whatever slots pay in a fade, the row that it finds for a nurse fits the case and keeps the frozen days.
 use Rattle.std.proofs.Common.{◌≡◌, ◌∙◌, ◌<◌, ◌≤◌, ◌==◌, ◌&&◌, ◌⊎◌, ℕ, true, inl, inr, ap, arith, refl, sym, List, [], ◌∷◌, length, Contains, None, Some}
 use Rattle.std.specs.List.{list_all}
 use Rattle.std.proofs.lemmas.Bool.{and_parts, cases_eq, cases_lt, eqb-true}
@@ -19,10 +19,10 @@ use Rattle.roster_laws.proofs.AllRows.{member_is_row}
 use Rattle.roster_laws.proofs.Below.{all_elim}
 use Rattle.roster_laws.proofs.Frozen.{frozen_is}
 use Rattle.roster_laws.proofs.OneRow.{other_row, own_row}
-use Rattle.roster_places.specs.Places.{PlaceWorths}
-use Rattle.roster_worths.specs.Worths.{can_work, floor_row, own_rows, row_cost_by}
+use Rattle.roster_slots.specs.Slots.{SlotPrices}
+use Rattle.roster_prices.specs.LowerBounds.{can_work, row_by_dual_prices, own_rows, row_cost_by}
 
-module _ (c : Meaning) (from : ℕ) (given : Rows) (w : PlaceWorths) (n : ℕ) (row : Row) (is : floor_row c from given w n ≡ Some row) where
+module _ (c : Meaning) (from : ℕ) (given : Rows) (w : SlotPrices) (n : ℕ) (row : Row) (is : row_by_dual_prices c from given w n ≡ Some row) where
   among : Contains (own_rows c from given n) row
   among =
       let found = least.found (row_cost_by c w n) (own_rows c from given n) row is in
@@ -49,12 +49,12 @@ put_stays c from given r n row stays keeps m d within frozen = go (cases_lt n (l
         ∙ frozen_is c from given n d (choice_on row d) (all_elim (day_count c) (λ k. keeps_frozen_day c from given n k (choice_on row k)) keeps d within) (ap (λ k. is_frozen c from k d) (sym same) ∙ frozen)
         ∙ ap (λ k. choice_on (row_of given k) d) (sym same)
 
--- a row of the case is as long as that in whose place it is put
+-- a row of the case is as long as the one that it replaces
 pub same_length : (c : Meaning) (r : Rows) (n : ℕ) (row : Row) → fits_case c r ≡ true → n < nurse_count c → is_row_of c row ≡ true → length row ≡ length (row_of r n)
 same_length c r n row fits inside is =
     eqb-true (length row) (day_count c) (and_parts (length row == day_count c) (list_all (is_choice_of c) row) is).0 ∙ sym (row-length c r n fits inside)
 
--- and the other way about
+-- and the other way round
 pub kept_is_none : (c : Meaning) (r : Rows) → keeps_hard c r ≡ true → first_fault (hard_faults c r) ≡ None
 kept_is_none c r keeps = of_list (hard_faults c r) keeps
   where

@@ -1,7 +1,7 @@
 -- Rows that are faded, and faded further, by searches that were made.
 use Rattle.std.proofs.Common.{◌≡◌, ◌∙◌, ◌+◌, ◌-◌, ◌*◌, ◌<◌, ◌≤◌, ℕ, ap, arith, mul_assoc, sym}
 use Rattle.roster_instance.specs.Meaning.{Meaning, day_count, nurse_count}
-use Rattle.roster_worths.specs.declared.offers.Base.{Base}
+use Rattle.roster_prices.specs.declared.offers.Base.{Base}
 use Rattle.roster_polish.specs.declared.kick.Kicking.{Kicking}
 use Rattle.roster_polish.specs.declared.space.PolishSpace.{PolishSpace}
 use Rattle.roster_polish.specs.Fades.{AreFaded, AreMade}
@@ -16,7 +16,7 @@ made_one c meter new left some more =
 pub made_both : (c : Meaning) (meter left meter2 left2 meter3 left3 : ℕ) → AreMade c meter left meter2 left2 → AreMade c meter2 left2 meter3 left3 → AreMade c meter left meter3 left3
 made_both c meter left meter2 left2 meter3 left3 first later = omega (arith, first, later)
 
--- those of rounds over all nurses
+-- the searches of rounds over all nurses
 pub made_rounds : (c : Meaning) (rounds searches nurses meter new : ℕ) → nurses ≡ nurse_count c → rounds * nurses ≤ searches → meter + rounds * (nurse_count c * day_count c) ≤ new → AreMade c meter searches new (searches - rounds * nurses)
 made_rounds c rounds searches nurses meter new nurses_are few made =
     let is : searches ≡ searches - rounds * nurses + rounds * nurses = omega (arith, few) in

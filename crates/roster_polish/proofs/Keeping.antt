@@ -23,7 +23,7 @@ same_days c a b fits_a fits_b =
     get_or-map days a n [] 0 (omega (arith, h, length-map a days)) ∙ row-length c a n fits_a inside ∙ sym (row-length c b n fits_b inside)
     ∙ sym (get_or-map days b n [] 0 (omega (arith, inside, all_nurses c b fits_b))))
 
--- a roster that is held, under whatever case it is held, may be kept
+-- a held roster may be kept, under whatever case it is held
 pub reached_by : (held c : Meaning) (from : ℕ) (given r : Rows) → held ≡ c → fits_case held r ≡ true → keeps_hard held r ≡ true → FrozenDaysStay c from given r → IsReached c from given r
 reached_by held c from given r same fits keeps stays = record {
   accepted = (subst (λ (m : Meaning). fits_case m r ≡ true) same fits, subst (λ (m : Meaning). keeps_hard m r ≡ true) same keeps);

@@ -20,10 +20,10 @@ use Rattle.roster_laws.proofs.Runs.{fall, settled_rows}
 use Rattle.roster_rounds.specs.PutIn.{IsAccepted}
 use Rattle.roster_log.specs.declared.fault.LogFault.TheVariants.{LogFailed}
 use Rattle.roster_polish.specs.declared.run.Polished.{Polished}
-use Rattle.roster_polish.specs.Polished.{Falls, IsFaded, IsKickLog, IsPolishing, IsReached, KickLine, PolishLogStops, Polishes, Told, begun, fade_line, fade_text, first_run, held_at, kick_line, kicks_text, last_kick, last_line, settling_rounds, no_kick, told_fade, told_kick, told_last, told_lines, told_start}
+use Rattle.roster_polish.specs.Polished.{Falls, IsFaded, IsKickLog, IsPolishing, IsReached, KickLine, PolishLogStops, Polishes, LogEntry, begun, fade_line, fade_text, first_run, held_at, kick_line, kicks_text, last_kick, last_line, descent_rounds, no_kick, fade_entry, kick_entry, last_entry, log_entries, start_entry}
 use Rattle.roster_polish.specs.Settled.{IsSettled}
 
--- ---- one line more
+-- ---- one more line
 
 last_is : (before : KickLine) (xs : List KickLine) (x : KickLine) → last_kick before (xs ++ x ∷ []) ≡ x
 last_is before [] x = refl
@@ -45,39 +45,39 @@ begun_reached c from given first (Some r) faded = faded.no_dearer
 
 -- ---- the roster at a line
 
-held_here : (x : Told) (xs : List Told) (r : Rows) (sent : ℕ) → sent < length x.text → held_at sent (x ∷ xs) r ≡ x.roster
+held_here : (x : LogEntry) (xs : List LogEntry) (r : Rows) (sent : ℕ) → sent < length x.text → held_at sent (x ∷ xs) r ≡ x.roster
 held_here x xs r sent inside = ap (λ b. if b then x.roster else held_at (sent - length x.text) xs r) (lt-ltb sent (length x.text) inside)
 
-held_later : (x : Told) (xs : List Told) (r : Rows) (more : ℕ) → held_at (length x.text + more) (x ∷ xs) r ≡ held_at more xs r
+held_later : (x : LogEntry) (xs : List LogEntry) (r : Rows) (more : ℕ) → held_at (length x.text + more) (x ∷ xs) r ≡ held_at more xs r
 held_later x xs r more =
     let rest : length x.text + more - length x.text ≡ more = omega arith in
     ap (λ b. if b then x.roster else held_at (length x.text + more - length x.text) xs r) (le-ltb (length x.text + more) (length x.text) (omega arith)) ∙ ap (λ m. held_at m xs r) rest
 
-held_kicks : (c : Meaning) (xs : List KickLine) (rest : List Told) (r : Rows) (more : ℕ) → held_at (length (flat_map (kick_line c) xs) + more) (map (told_kick c) xs ++ rest) r ≡ held_at more rest r
+held_kicks : (c : Meaning) (xs : List KickLine) (rest : List LogEntry) (r : Rows) (more : ℕ) → held_at (length (flat_map (kick_line c) xs) + more) (map (kick_entry c) xs ++ rest) r ≡ held_at more rest r
 held_kicks c [] rest r more = ap (λ m. held_at m rest r) (zero-add more)
 held_kicks c (x ∷ xs) rest r more =
     let size : length (kick_line c x ++ flat_map (kick_line c) xs) + more ≡ length (kick_line c x) + (length (flat_map (kick_line c) xs) + more) = omega (arith, length-append (kick_line c x) (flat_map (kick_line c) xs)) in
-    ap (λ m. held_at m (told_kick c x ∷ map (told_kick c) xs ++ rest) r) size ∙ held_later (told_kick c x) (map (told_kick c) xs ++ rest) r (length (flat_map (kick_line c) xs) + more) ∙ held_kicks c xs rest r more
+    ap (λ m. held_at m (kick_entry c x ∷ map (kick_entry c) xs ++ rest) r) size ∙ held_later (kick_entry c x) (map (kick_entry c) xs ++ rest) r (length (flat_map (kick_line c) xs) + more) ∙ held_kicks c xs rest r more
 
-held_fade : (c : Meaning) (fade : Option Rows) (rest : List Told) (r : Rows) (more : ℕ) → held_at (length (fade_text c fade) + more) (told_fade c fade ++ rest) r ≡ held_at more rest r
+held_fade : (c : Meaning) (fade : Option Rows) (rest : List LogEntry) (r : Rows) (more : ℕ) → held_at (length (fade_text c fade) + more) (fade_entry c fade ++ rest) r ≡ held_at more rest r
 held_fade c None rest r more = ap (λ m. held_at m rest r) (zero-add more)
 held_fade c (Some faded) rest r more = held_later (record { text = fade_line c faded; roster = faded }) rest r more
 
 -- at the line after some kicks
-held_after : (c : Meaning) (given : Rows) (start : ℕ) (fade : Option Rows) (xs : List KickLine) (x : Told) (rest : List Told) (more : ℕ) → more < length x.text
-    → held_at (length (kicks_text c start fade xs) + more) (told_start c start given ∷ (told_fade c fade ++ (map (told_kick c) xs ++ x ∷ rest))) given ≡ x.roster
+held_after : (c : Meaning) (given : Rows) (start : ℕ) (fade : Option Rows) (xs : List KickLine) (x : LogEntry) (rest : List LogEntry) (more : ℕ) → more < length x.text
+    → held_at (length (kicks_text c start fade xs) + more) (start_entry c start given ∷ (fade_entry c fade ++ (map (kick_entry c) xs ++ x ∷ rest))) given ≡ x.roster
 held_after c given start fade xs x rest more inside =
     let first : List ℕ = line (start_word c) start in
     let kicks : List ℕ = flat_map (kick_line c) xs in
-    let those : List Told = told_fade c fade ++ (map (told_kick c) xs ++ x ∷ rest) in
+    let those : List LogEntry = fade_entry c fade ++ (map (kick_entry c) xs ++ x ∷ rest) in
     let size : length (first ++ (fade_text c fade ++ kicks)) + more ≡ length first + (length (fade_text c fade) + (length kicks + more)) = omega (arith, length-append first (fade_text c fade ++ kicks), length-append (fade_text c fade) kicks) in
-    ap (λ m. held_at m (told_start c start given ∷ those) given) size ∙ held_later (told_start c start given) those given (length (fade_text c fade) + (length kicks + more))
-    ∙ held_fade c fade (map (told_kick c) xs ++ x ∷ rest) given (length kicks + more) ∙ held_kicks c xs (x ∷ rest) given more ∙ held_here x rest given more inside
+    ap (λ m. held_at m (start_entry c start given ∷ those) given) size ∙ held_later (start_entry c start given) those given (length (fade_text c fade) + (length kicks + more))
+    ∙ held_fade c fade (map (kick_entry c) xs ++ x ∷ rest) given (length kicks + more) ∙ held_kicks c xs (x ∷ rest) given more ∙ held_here x rest given more inside
 
-told_more : (c : Meaning) (given : Rows) (start : ℕ) (fade : Option Rows) (xs : List KickLine) (x : KickLine) (settled : Bool) (last : Rows)
-    → told_start c start given ∷ (told_fade c fade ++ (map (told_kick c) xs ++ told_kick c x ∷ told_last c settled last ∷ [])) ≡ told_lines c given start fade (xs ++ x ∷ []) settled last
-told_more c given start fade xs x settled last =
-    ap (λ those. told_start c start given ∷ (told_fade c fade ++ those)) (sym (append_assoc (map (told_kick c) xs) (told_kick c x ∷ []) (told_last c settled last ∷ [])) ∙ ap (λ those. those ++ told_last c settled last ∷ []) (sym (map-append (told_kick c) xs (x ∷ []))))
+logged_more : (c : Meaning) (given : Rows) (start : ℕ) (fade : Option Rows) (xs : List KickLine) (x : KickLine) (settled : Bool) (last : Rows)
+    → start_entry c start given ∷ (fade_entry c fade ++ (map (kick_entry c) xs ++ kick_entry c x ∷ last_entry c settled last ∷ [])) ≡ log_entries c given start fade (xs ++ x ∷ []) settled last
+logged_more c given start fade xs x settled last =
+    ap (λ those. start_entry c start given ∷ (fade_entry c fade ++ those)) (sym (append_assoc (map (kick_entry c) xs) (kick_entry c x ∷ []) (last_entry c settled last ∷ [])) ∙ ap (λ those. those ++ last_entry c settled last ∷ []) (sym (map-append (kick_entry c) xs (x ∷ []))))
 
 -- ---- the first line
 
@@ -96,7 +96,7 @@ pub record Underway {W : Type 0} (contents : W → Option (List ℕ)) (c : Meani
   pub faded : IfSome fade (IsFaded c from given (first_run c from given).roster)
   pub lines : List KickLine
   pub is_log : IsKickLog c from given (begun fade (first_run c from given).roster) made lines
-  pub as_told : penalty c kept ≡ penalty c (last_kick (no_kick (begun fade (first_run c from given).roster)) lines).roster
+  pub as_logged : penalty c kept ≡ penalty c (last_kick (no_kick (begun fade (first_run c from given).roster)) lines).roster
   pub is_settled : settled ≡ true → IsSettled c from kept
   pub surely : (first_run c from given).is_settled ≡ true → settled ≡ true
   pub sends : Sends contents old mid 0 sent (kicks_text c start fade lines)
@@ -112,7 +112,7 @@ module _ (c : Meaning) (from : ℕ) (given : Rows) (start : ℕ) (alone : Bool) 
   no_log begin made = record { reached = All-nil IsLine; falls = tt; within = omega arith }
 
   first_settled : (first_run c from given).is_settled ≡ true → IsSettled c from first
-  first_settled end = settled_rows c from settling_rounds given end
+  first_settled end = settled_rows c from descent_rounds given end
 
   later_log : (begin : Rows) (made next : ℕ) (lines : List KickLine) → made ≤ next → IsKickLog c from given begin made lines → IsKickLog c from given begin next lines
   later_log begin made next lines h p = let within : (last_kick (no_kick begin) lines).kick ≤ made = p.within in record { reached = p.reached; falls = p.falls; within = omega arith }
@@ -120,15 +120,15 @@ module _ (c : Meaning) (from : ℕ) (given : Rows) (start : ℕ) (alone : Bool) 
   -- no roster of a log is dearer than the given one
   pub no_dearer_than : (fade : Option Rows) → IfSome fade (IsFaded c from given first) → (lines : List KickLine) (kept : Rows) → Falls c (no_kick (begun fade first)) lines
       → penalty c kept ≡ penalty c (last_kick (no_kick (begun fade first)) lines).roster → penalty c kept ≤ penalty c given
-  no_dearer_than fade faded lines kept falls told =
-      omega (arith, told, last_is_least c (no_kick (begun fade first)) lines falls, begun_reached c from given first fade faded, fall c (best_row c from) settling_rounds given)
+  no_dearer_than fade faded lines kept falls logged =
+      omega (arith, logged, last_is_least c (no_kick (begun fade first)) lines falls, begun_reached c from given first fade faded, fall c (best_row c from) descent_rounds given)
 
   -- ---- a run without a kick
 
   pub first_kept : IsAccepted c given → IsReached c from given first
   first_kept accepted = record {
-    accepted = run_keeps c (best_row c from) (IsKept c) (step_keeps c from) settling_rounds given accepted;
-    stays = run_keeps c (best_row c from) (FrozenDaysStay c from given) (steps_stay c from given) settling_rounds given (stays_self c from given);
+    accepted = run_keeps c (best_row c from) (IsKept c) (step_keeps c from) descent_rounds given accepted;
+    stays = run_keeps c (best_row c from) (FrozenDaysStay c from given) (steps_stay c from given) descent_rounds given (stays_self c from given);
   }
 
   pub unkicked : (kicks : ℕ) → IsAccepted c given → IsPolishing c from given start kicks alone (first_run c from given).is_settled first (unkicked_text c from start given)
@@ -139,7 +139,7 @@ module _ (c : Meaning) (from : ℕ) (given : Rows) (start : ℕ) (alone : Bool) 
     lines = [];
     is_log = no_log first kicks;
     reached = first_kept accepted;
-    as_told = refl;
+    as_logged = refl;
     no_dearer = no_dearer_than None tt [] first tt refl;
     is_settled = first_settled;
     surely = λ end. end;
@@ -164,7 +164,7 @@ module _ (c : Meaning) (from : ℕ) (given : Rows) (start : ℕ) (alone : Bool) 
       faded = tt;
       lines = [];
       is_log = no_log first 0;
-      as_told = refl;
+      as_logged = refl;
       is_settled = first_settled;
       surely = λ end. end;
       sends = sends;
@@ -181,7 +181,7 @@ module _ (c : Meaning) (from : ℕ) (given : Rows) (start : ℕ) (alone : Bool) 
       sent = p.sent;
       stops = StopsAt-append contents old new (kicks_text c start None []) (last_line c (first_run c from given).is_settled first) p.sent p.stops;
       counted = ap (λ f. LogFailed (sent_of f)) p.counted ∙ ap (λ n. LogFailed (saturated n)) (zero-add p.sent);
-      held = sym (held_here (told_start c start given) (told_last c (first_run c from given).is_settled first ∷ []) given p.sent (subst (λ text. p.sent < length text) (append-nil (line (start_word c) start)) p.stops.left));
+      held = sym (held_here (start_entry c start given) (last_entry c (first_run c from given).is_settled first ∷ []) given p.sent (subst (λ text. p.sent < length text) (append-nil (line (start_word c) start)) p.stops.left));
       reached = record { accepted = accepted; stays = stays_self c from given };
     }
 
@@ -199,7 +199,7 @@ module _ (c : Meaning) (from : ℕ) (given : Rows) (start : ℕ) (alone : Bool) 
         faded = faded;
         lines = [];
         is_log = no_log next 0;
-        as_told = refl;
+        as_logged = refl;
         is_settled = λ e. faded.is_settled;
         surely = λ end. refl;
         sends = subst (Sends contents old new 0 after) fade_more (Sends-append contents old mid new 0 sent after (kicks_text c start None []) (fade_line c next) sends q);
@@ -211,7 +211,7 @@ module _ (c : Meaning) (from : ℕ) (given : Rows) (start : ℕ) (alone : Bool) 
       fade_breaks kicks new fault q =
           let front : sent ≡ saturated (0 + length (kicks_text c start None [])) = sends.counted in
           let count : saturated (sent + q.sent) ≡ saturated (length (kicks_text c start None []) + q.sent) = omega arith in
-          let whole : List Told = told_lines c given start (Some next) [] true next in
+          let whole : List LogEntry = log_entries c given start (Some next) [] true next in
           let size : length (kicks_text c start None []) + q.sent ≡ length first_line + q.sent = ap (λ text. length text + q.sent) (append-nil first_line) in
           record {
             settled = true;
@@ -224,7 +224,7 @@ module _ (c : Meaning) (from : ℕ) (given : Rows) (start : ℕ) (alone : Bool) 
               lines = [];
               is_log = no_log next kicks;
               reached = faded.reached;
-              as_told = refl;
+              as_logged = refl;
               no_dearer = no_dearer_than (Some next) faded [] next tt refl;
               is_settled = λ e. faded.is_settled;
               surely = λ end. refl;
@@ -234,8 +234,8 @@ module _ (c : Meaning) (from : ℕ) (given : Rows) (start : ℕ) (alone : Bool) 
             stops = StopsAt-append contents old new (kicks_text c start (Some next) []) (last_line c true next) (length (kicks_text c start None []) + q.sent)
                 (subst (λ text. StopsAt contents old new text (length (kicks_text c start None []) + q.sent)) fade_more (StopsAt-after contents old mid new (kicks_text c start None []) (fade_line c next) q.sent sends.writes q.stops));
             counted = ap (λ f. LogFailed (sent_of f)) q.counted ∙ ap LogFailed count;
-            held = sym (ap (λ m. held_at m whole given) size ∙ held_later (told_start c start given) (told_fade c (Some next) ++ told_last c true next ∷ []) given q.sent
-                ∙ held_here (record { text = fade_line c next; roster = next }) (told_last c true next ∷ []) given q.sent q.stops.left);
+            held = sym (ap (λ m. held_at m whole given) size ∙ held_later (start_entry c start given) (fade_entry c (Some next) ++ last_entry c true next ∷ []) given q.sent
+                ∙ held_here (record { text = fade_line c next; roster = next }) (last_entry c true next ∷ []) given q.sent q.stops.left);
             reached = faded.reached;
           }
 
@@ -244,7 +244,7 @@ module _ (c : Meaning) (from : ℕ) (given : Rows) (start : ℕ) (alone : Bool) 
       begin = begun p.fade first
 
       pub underway_no_dearer : penalty c kept ≤ penalty c given
-      underway_no_dearer = no_dearer_than p.fade p.faded p.lines kept p.is_log.falls p.as_told
+      underway_no_dearer = no_dearer_than p.fade p.faded p.lines kept p.is_log.falls p.as_logged
 
       -- a kick that left the roster as dear
       pub underway_same : (now : Bool) (next : Rows) → penalty c next ≡ penalty c kept → (now ≡ true → IsSettled c from next) → (settled ≡ true → now ≡ true) → Underway contents c from given start alone old mid (made + 1) sent now next
@@ -254,7 +254,7 @@ module _ (c : Meaning) (from : ℕ) (given : Rows) (start : ℕ) (alone : Bool) 
         faded = p.faded;
         lines = p.lines;
         is_log = later_log begin made (made + 1) p.lines (omega arith) p.is_log;
-        as_told = same ∙ p.as_told;
+        as_logged = same ∙ p.as_logged;
         is_settled = is_settled;
         surely = λ end. still (p.surely end);
         sends = p.sends;
@@ -272,12 +272,12 @@ module _ (c : Meaning) (from : ℕ) (given : Rows) (start : ℕ) (alone : Bool) 
             let within : (last_kick (no_kick begin) p.lines).kick ≤ made = p.is_log.within in
             record {
               reached = All-append IsLine p.lines (one ∷ []) p.is_log.reached (All-cons IsLine one [] (reached, is_settled) (All-nil IsLine));
-              falls = falls_more c (no_kick begin) p.lines one p.is_log.falls (omega arith) (omega (arith, less, p.as_told));
+              falls = falls_more c (no_kick begin) p.lines one p.is_log.falls (omega arith) (omega (arith, less, p.as_logged));
               within = omega (arith, ap (λ (y : KickLine). y.kick) (last_is (no_kick begin) p.lines one));
             }
 
-        told_then : penalty c next ≡ penalty c (last_kick (no_kick begin) lines_then).roster
-        told_then = sym (ap (λ (y : KickLine). penalty c y.roster) (last_is (no_kick begin) p.lines one))
+        logged_then : penalty c next ≡ penalty c (last_kick (no_kick begin) lines_then).roster
+        logged_then = sym (ap (λ (y : KickLine). penalty c y.roster) (last_is (no_kick begin) p.lines one))
 
         -- a kick that left it cheaper
         pub underway_cheaper : (new : Watched W) (after : ℕ) → Sends contents mid new sent after (kick_line c one) → Underway contents c from given start alone old new (made + 1) after true next
@@ -287,7 +287,7 @@ module _ (c : Meaning) (from : ℕ) (given : Rows) (start : ℕ) (alone : Bool) 
           faded = p.faded;
           lines = lines_then;
           is_log = more_log;
-          as_told = told_then;
+          as_logged = logged_then;
           is_settled = λ e. is_settled;
           surely = λ end. refl;
           sends = subst (Sends contents old new 0 after) (text_more p.fade p.lines one) (Sends-append contents old mid new 0 sent after (kicks_text c start p.fade p.lines) (kick_line c one) p.sends q);
@@ -309,8 +309,8 @@ module _ (c : Meaning) (from : ℕ) (given : Rows) (start : ℕ) (alone : Bool) 
                 lines = lines_then;
                 is_log = later_log begin (made + 1) kicks lines_then (omega arith) more_log;
                 reached = reached;
-                no_dearer = no_dearer_than p.fade p.faded lines_then next more_log.falls told_then;
-                as_told = told_then;
+                no_dearer = no_dearer_than p.fade p.faded lines_then next more_log.falls logged_then;
+                as_logged = logged_then;
                 is_settled = λ e. is_settled;
                 surely = λ end. refl;
                 text_is = refl;
@@ -319,7 +319,7 @@ module _ (c : Meaning) (from : ℕ) (given : Rows) (start : ℕ) (alone : Bool) 
               stops = StopsAt-append contents old new (kicks_text c start p.fade lines_then) (last_line c true next) (length (kicks_text c start p.fade p.lines) + q.sent)
                   (subst (λ text. StopsAt contents old new text (length (kicks_text c start p.fade p.lines) + q.sent)) (text_more p.fade p.lines one) (StopsAt-after contents old mid new (kicks_text c start p.fade p.lines) (kick_line c one) q.sent p.sends.writes q.stops));
               counted = ap (λ f. LogFailed (sent_of f)) q.counted ∙ ap LogFailed count;
-              held = sym (subst (λ those. held_at (length (kicks_text c start p.fade p.lines) + q.sent) those given ≡ next) (told_more c given start p.fade p.lines one true next) (held_after c given start p.fade p.lines (told_kick c one) (told_last c true next ∷ []) q.sent q.stops.left));
+              held = sym (subst (λ those. held_at (length (kicks_text c start p.fade p.lines) + q.sent) those given ≡ next) (logged_more c given start p.fade p.lines one true next) (held_after c given start p.fade p.lines (kick_entry c one) (last_entry c true next ∷ []) q.sent q.stops.left));
               reached = reached;
             }
 
@@ -336,15 +336,15 @@ module _ (c : Meaning) (from : ℕ) (given : Rows) (start : ℕ) (alone : Bool) 
         lines = p.lines;
         is_log = later_log begin made kicks p.lines few p.is_log;
         reached = reached;
-        as_told = p.as_told;
-        no_dearer = no_dearer_than p.fade p.faded p.lines kept p.is_log.falls p.as_told;
+        as_logged = p.as_logged;
+        no_dearer = no_dearer_than p.fade p.faded p.lines kept p.is_log.falls p.as_logged;
         is_settled = p.is_settled;
         surely = p.surely;
         text_is = refl;
       }
 
-      pub ends : (kicks : ℕ) (new : Watched W) (after : ℕ) (told : Polished) → made ≤ kicks → IsReached c from given kept → told.settled ≡ settled → told.total ≡ penalty c kept → Sends contents mid new sent after (last_line c settled kept) → Polishes contents c from given start kicks alone kept old new told
-      ends kicks new after told few reached settled_is total_is q = record {
+      pub ends : (kicks : ℕ) (new : Watched W) (after : ℕ) (logged : Polished) → made ≤ kicks → IsReached c from given kept → logged.settled ≡ settled → logged.total ≡ penalty c kept → Sends contents mid new sent after (last_line c settled kept) → Polishes contents c from given start kicks alone kept old new logged
+      ends kicks new after logged few reached settled_is total_is q = record {
         text = whole;
         run = subst (λ b. IsPolishing c from given start kicks alone b kept whole) (sym settled_is) (ended kicks few reached);
         writes = (Sends-append contents old mid new 0 sent after (kicks_text c start p.fade p.lines) (last_line c settled kept) p.sends q).writes;
@@ -363,6 +363,6 @@ module _ (c : Meaning) (from : ℕ) (given : Rows) (start : ℕ) (alone : Bool) 
             sent = length (kicks_text c start p.fade p.lines) + q.sent;
             stops = StopsAt-after contents old mid new (kicks_text c start p.fade p.lines) (last_line c settled kept) q.sent p.sends.writes q.stops;
             counted = ap (λ f. LogFailed (sent_of f)) q.counted ∙ ap LogFailed count;
-            held = sym (held_after c given start p.fade p.lines (told_last c settled kept) [] q.sent q.stops.left);
+            held = sym (held_after c given start p.fade p.lines (last_entry c settled kept) [] q.sent q.stops.left);
             reached = reached;
           }

@@ -37,14 +37,14 @@ use Rattle.roster_polish.specs.declared.offers.Kick.{Kick}
 abbrev pub priced_in : Meaning → ℕ → Kick → ℕ → Offer → Offer
 priced_in c n kick d offer = record { choice = offer.choice; price = price_from c n kick d offer.choice offer.price }
 
--- all of them are: what the kick offers
+-- what the kick offers: all of these
 pub priced_all : (c : Meaning) (r : Rows) (n : ℕ) (kick : Kick) (d : ℕ) (those : List Offer) → those ≡ offers_of c (from_on kick d) r n d → map (priced_in c n kick d) those ≡ offers_by c (kick_offered c r n kick) (kick_price c r n kick) d
 priced_all c r n kick d those is = ap (map (priced_in c n kick d)) is ∙ map-map (priced_in c n kick d) (offer_of c r n d) (filter (kick_offered c r n kick d) (all_choices c))
 
 -- each is a choice of the case
-pub open_of_case : (c : Meaning) (r : Rows) (n from d : ℕ) (those : List Offer) (place : ℕ) (e : Offer) → HasSmallNumbers c → shift_count c ≤ most_shifts → skill_count c ≤ most_skills → those ≡ offers_of c from r n d → place < length those → is_choice_of c (get_or those place e).choice ≡ true
-open_of_case c r n from d those place e small shifts skills is within =
-    (All-get_or (IsOfferOf c) those place e within (subst (All (IsOfferOf c)) (sym is) (offers_of_case c from r n d small shifts skills))).choice
+pub open_of_case : (c : Meaning) (r : Rows) (n from d : ℕ) (those : List Offer) (position : ℕ) (e : Offer) → HasSmallNumbers c → shift_count c ≤ most_shifts → skill_count c ≤ most_skills → those ≡ offers_of c from r n d → position < length those → is_choice_of c (get_or those position e).choice ≡ true
+open_of_case c r n from d those position e small shifts skills is within =
+    (All-get_or (IsOfferOf c) those position e within (subst (All (IsOfferOf c)) (sym is) (offers_of_case c from r n d small shifts skills))).choice
 
 still_frozen : (before before_later stays : Bool) → (before ≡ true → before_later ≡ true) → (before || stays) ≡ true → (before_later || stays) ≡ true
 still_frozen true before_later stays later e = ap (λ b. b || stays) (later refl)
@@ -154,16 +154,16 @@ module _ (c : Meaning) (r : Rows) (n : ℕ) (kick : Kick) where
           allowed-with_row c r keeps n (has_row c r n fits inside) inside row kick.from
           ∙ all_true (day_count c) (λ d. is_offered c kick.from r n d (choice_on row d) && not (breaks_succession c n (days_of row) d)) each
 
-      parted : (keeps_hard c (with_row r n row) ≡ true) × (keeps_frozen_days c kick.from r n row ≡ true)
-      parted = and_parts (keeps_hard c (with_row r n row)) (keeps_frozen_days c kick.from r n row) both
+      both_kept : (keeps_hard c (with_row r n row) ≡ true) × (keeps_frozen_days c kick.from r n row ≡ true)
+      both_kept = and_parts (keeps_hard c (with_row r n row)) (keeps_frozen_days c kick.from r n row) both
 
       member_keeps : row_keeps c r n row ≡ true
-      member_keeps = and_from (is_row_of c row) (keeps_hard c (with_row r n row)) is_row parted.0
+      member_keeps = and_from (is_row_of c row) (keeps_hard c (with_row r n row)) is_row both_kept.0
 
       member_stays : keeps_frozen_days c kick.from r n row ≡ true
-      member_stays = parted.1
+      member_stays = both_kept.1
 
-    -- ---- over a table of these offers
+    -- ---- over these offers of all days
 
     module _ (table : List (ArrayVec Offer)) (are : AreKickOffers c r n kick table) where
       pub can_search : AreOffers c n table

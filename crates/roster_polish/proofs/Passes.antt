@@ -13,14 +13,15 @@ use Rattle.roster_laws.specs.Greatest.{greatest_extension_count}
 use Rattle.roster_laws.proofs.Runs.{run-goes_on, run-settled, run-stopped}
 use Rattle.roster_laws.proofs.SameRows.{same_rows_is, same_rows_of}
 use Rattle.roster_rounds.proofs.RoundSteps.{fold_more}
-use Rattle.roster_polish.specs.declared.settle.Pass.{Pass}
-use Rattle.roster_polish.specs.declared.settle.Pass.TheVariants.{Changed, Stopped, Unchanged}
-use Rattle.roster_polish.specs.Polished.{first_searches, settling_rounds, rounds_made, settling_searches}
+use Rattle.roster_polish.specs.declared.descend.Pass.{Pass}
+use Rattle.roster_polish.specs.declared.descend.Pass.TheVariants.{Changed, Stopped, Unchanged}
+use Rattle.roster_polish.specs.Polished.{first_searches, descent_rounds, rounds_made, descent_searches}
 use Rattle.roster_laws.specs.Settled.{HasBestRow, settled_at}
 use Rattle.roster_polish.specs.Settled.{Spends, extensions_of}
 use Rattle.roster_polish.proofs.Steps.{both_of, falls_if, has_best, is_same, one_and_rest}
 
--- the steps of the nurses from the first to before this one led from one roster to another, and changed it or not
+-- the steps of the nurses from the first to before this one led from one roster to another, and changed it or
+-- not
 pub record PassTo (c : Meaning) (from : ℕ) (old now : Rows) (changed : Bool) (first n : ℕ) : Type 0 where
   pub steps : first ≡ 0 → now ≡ fold (step c (best_row c from)) old (range_with_len 0 n)
   pub same : changed ≡ false → now ≡ old
@@ -47,8 +48,8 @@ module _ (c : Meaning) (from : ℕ) (old : Rows) (first : ℕ) where
       steps_more none = is ∙ ap (λ s. step c (best_row c from) s n) (p.steps none) ∙ sym (fold_more c (best_row c from) old n)
 
       pub pass_moves : moved ≡ true → PassTo c from old new true first (n + 1)
-      pass_moves moves =
-          let less : penalty c new < penalty c now = falls_if c from now new n is moved moved_is moves in
+      pass_moves steps =
+          let less : penalty c new < penalty c now = falls_if c from now new n is moved moved_is steps in
           record {
             steps = steps_more;
             same = λ e. absurd (true≢false e);
@@ -136,11 +137,11 @@ unfolding rounds_made
 rounds_few c from zero r = omega arith
 rounds_few c from (suc m) r = one_more_or_last (same_rows (round c (best_row c from) r) r) (rounds_made c from m (round c (best_row c from) r)) m (rounds_few c from m (round c (best_row c from) r))
 
--- no first settling takes more searches than any does
-pub settling_few : (c : Meaning) (from : ℕ) (r : Rows) → settling_searches c from r ≤ first_searches c
-settling_few c from r = mul-le (rounds_made c from settling_rounds r) (nurse_count c) settling_rounds (nurse_count c) (rounds_few c from settling_rounds r) (omega arith)
+-- from no roster does the first descent take more searches than it may at most
+pub descent_few : (c : Meaning) (from : ℕ) (r : Rows) → descent_searches c from r ≤ first_searches c
+descent_few c from r = mul-le (rounds_made c from descent_rounds r) (nurse_count c) descent_rounds (nurse_count c) (rounds_few c from descent_rounds r) (omega arith)
 
--- what a settling of so many rounds has counted, where each took at most one search for each nurse
+-- what a descent of this many rounds has counted, if each took at most one search for each nurse
 pub counted_in : (c : Meaning) (rounds meter left new new_left : ℕ) → Spends c meter left new new_left → left ≤ new_left + rounds * nurse_count c → new ≤ meter + extensions_of c (rounds * nurse_count c)
 counted_in c rounds meter left new new_left spends few =
     omega (arith, spends.counted, both_of new_left (rounds * nurse_count c) (greatest_extension_count c), mul-le left (greatest_extension_count c) (new_left + rounds * nurse_count c) (greatest_extension_count c) few (omega arith))
@@ -148,7 +149,7 @@ counted_in c rounds meter left new new_left spends few =
 pub run_stops : (c : Meaning) (from : ℕ) (r : Rows) (rounds made : ℕ) → made ≡ rounds → run c (best_row c from) (rounds - made) r ≡ record { roster = r; is_settled = false }
 run_stops c from r rounds made all = let none : rounds - made ≡ 0 = omega (arith, all) in ap (λ m. run c (best_row c from) m r) none ∙ run-stopped c (best_row c from) r
 
--- how it ended tells whether it changed the roster
+-- how it ended says whether it changed the roster
 pub was_same : (same : Bool) (end : Pass) → end ≡ (if same then Unchanged else Changed) → end ≡ Unchanged → same ≡ true
 was_same true end is unchanged = refl
 was_same false end is unchanged = absurd (true≢false (sym (ap is_unchanged (sym is ∙ unchanged))))

@@ -1,4 +1,4 @@
--- Where no breach is unmendable, each nurse has a row: as it is given on the frozen days, and off on the others.
+-- If no breach is irreparable, each nurse has a row: as given on the frozen days, and off on the others.
 use Rattle.std.proofs.Common.{◌≡◌, ◌∙◌, ◌-◌, ◌<◌, ◌≤◌, ◌++◌, ◌==◌, ◌||◌, ◌⊎◌, ◌&&◌, ℕ, Bool, List, true, false, not, inl, inr, ap, ap₂, arith, refl, sym, [], ◌∷◌, length, map, None, Option, Some, if◌then◌else◌}
 use Rattle.std.specs.List.{All, list_all, range_with_len}
 use Rattle.std.proofs.lemmas.Bool.{and_from, and_parts, cases_Bool, cases_lt, eq-eqb}
@@ -23,20 +23,20 @@ use Rattle.roster_instance.proofs.RosterFacts.{row_fits}
 use Rattle.roster_laws.proofs.Allowed.{present_stays}
 use Rattle.roster_laws.proofs.Below.{all_elim, all_true}
 use Rattle.roster_laws.proofs.Keeps.{none_below, none_of_both, none_where_not, not_not}
-use Rattle.roster_worths.specs.Worths.{HaveRows, can_work}
-use Rattle.roster_costs.specs.Unmendable.{follows_frozen, frozen_absences, frozen_minimums, frozen_successions, unmendable}
+use Rattle.roster_prices.specs.LowerBounds.{HaveRows, can_work}
+use Rattle.roster_costs.specs.Irreparable.{follows_frozen, frozen_absences, frozen_minimums, frozen_successions, irreparable}
 
--- to be off may follow each shift, and may come before each
+-- a day off may follow each shift, and may come before each
 off_follows : (successions : List (Option (List Bool))) (last : Option Shift) → forbids successions last None ≡ false
 off_follows successions None = refl
 off_follows successions (Some s) = refl
 
--- what holds of each number holds of each of a list
+-- what holds of each number holds of each member of a list
 everywhere : (P : ℕ → Type 0) → ((d : ℕ) → P d) → (ds : List ℕ) → All P ds
 everywhere P holds [] = All-nil P
 everywhere P holds (d ∷ ds) = All-cons P d ds (holds d) (everywhere P holds ds)
 
-module _ (c : Meaning) (from : ℕ) (r : Rows) (fits : fits_case c r ≡ true) (none : unmendable c from r ≡ []) where
+module _ (c : Meaning) (from : ℕ) (r : Rows) (fits : fits_case c r ≡ true) (none : irreparable c from r ≡ []) where
   abbrev of_rows : List HardFault
   of_rows = skill_faults c r ++ frozen_successions c from r ++ frozen_absences c from r
 
@@ -178,5 +178,5 @@ module _ (c : Meaning) (from : ℕ) (r : Rows) (fits : fits_case c r ≡ true) (
         (and_from (keeps_skills c n own (day_count c)) (keeps_absences c n own (day_count c)) (all_true (day_count c) (is_able_on c n own) own_able) (all_true (day_count c) (is_here_on c n own) own_here)) (all_true (day_count c) (λ d. not (breaks_succession c n (days_of own) d)) own_follows))
         (all_true (day_count c) (λ d. keeps_frozen_day c from r n d (choice_on own d)) own_stays)
 
-  pub mendable_rows : HaveRows c from r
-  mendable_rows n inside = record { row = own n inside; fits = own_fits n inside; works = own_works n inside }
+  pub repairable_rows : HaveRows c from r
+  repairable_rows n inside = record { row = own n inside; fits = own_fits n inside; works = own_works n inside }

@@ -1,4 +1,4 @@
--- A step of a settling, and what it spends.
+-- A step of a descent, and what it spends.
 use Rattle.std.proofs.Common.{◌≡◌, ◌∙◌, ◌+◌, ◌-◌, ◌*◌, ◌<◌, ◌≤◌, ◌⊎◌, ℕ, Bool, true, false, not, inl, inr, ap, arith, mul_assoc, nat_lt, refl, subst, sym}
 use Rattle.std.specs.List.{All}
 use Rattle.std.proofs.lemmas.Bool.{cases_Bool, ltb-false, ltb-true}
@@ -51,13 +51,13 @@ module _ (c : Meaning) (n meter left : ℕ) (inside : n < nurse_count c) (some :
       ap (λ m. m * greatest_extension_count c) is ∙ one_and_rest (left - 1) (greatest_extension_count c)
 
   -- a search is one of those that are left
-  pub has_room : (most : ℕ) → meter + extensions_of c left ≤ most → meter + extension_count c n ≤ most
-  has_room most room = omega (arith, one_more, one_of, room)
+  pub search_fits_meter : (most : ℕ) → meter + extensions_of c left ≤ most → meter + extension_count c n ≤ most
+  search_fits_meter most room = omega (arith, one_more, one_of, room)
 
   pub spent : (new left_new : ℕ) → left_new ≡ left - 1 → new ≤ meter + extension_count c n → Spends c meter left new left_new
   spent new left_new less counted = record { fewer = omega (arith, less); counted = omega (arith, counted, one_more, one_of, ap (extensions_of c) less) }
 
-  -- none where the meter stood still
+  -- no search is taken if the meter stood still
   pub spent_if : (before after left_new : ℕ) → before ≡ meter → left_new ≡ left - one_if (nat_lt before after) → after ≤ meter + extension_count c n → Spends c meter left after left_new
   spent_if before after left_new begun less counted = go (cases_Bool (nat_lt before after))
     where
@@ -72,9 +72,9 @@ module _ (c : Meaning) (n meter left : ℕ) (inside : n < nurse_count c) (some :
 pub spent_both : (c : Meaning) (meter left meter2 left2 meter3 left3 : ℕ) → Spends c meter left meter2 left2 → Spends c meter2 left2 meter3 left3 → Spends c meter left meter3 left3
 spent_both c meter left meter2 left2 meter3 left3 first later = record { fewer = omega (arith, first.fewer, later.fewer); counted = omega (arith, first.counted, later.counted) }
 
--- what is left has room where all had
-pub room_left : (c : Meaning) (meter left meter2 left2 most : ℕ) → Spends c meter left meter2 left2 → meter + extensions_of c left ≤ most → meter2 + extensions_of c left2 ≤ most
-room_left c meter left meter2 left2 most spends room = omega (arith, spends.counted, room)
+-- what is left can be counted if all could be
+pub rest_fits_meter : (c : Meaning) (meter left meter2 left2 most : ℕ) → Spends c meter left meter2 left2 → meter + extensions_of c left ≤ most → meter2 + extensions_of c left2 ≤ most
+rest_fits_meter c meter left meter2 left2 most spends room = omega (arith, spends.counted, room)
 
 pub spent_none : (c : Meaning) (meter left : ℕ) → Spends c meter left meter left
 spent_none c meter left = record { fewer = omega arith; counted = omega arith }
@@ -85,8 +85,8 @@ module _ (c : Meaning) (rounds searches nurses : ℕ) (nurses_are : nurses ≡ n
   so_many : extensions_in c rounds ≡ extensions_of c (rounds * nurses)
   so_many = sym (mul_assoc rounds (nurse_count c) (greatest_extension_count c)) ∙ ap (λ n. extensions_of c (rounds * n)) (sym nurses_are)
 
-  pub rounds_room : (meter most : ℕ) → meter + extensions_of c searches ≤ most → meter + extensions_in c rounds ≤ most
-  rounds_room meter most room = omega (arith, so_many, room, mul-le (rounds * nurses) (greatest_extension_count c) searches (greatest_extension_count c) few (omega arith))
+  pub rounds_fit_meter : (meter most : ℕ) → meter + extensions_of c searches ≤ most → meter + extensions_in c rounds ≤ most
+  rounds_fit_meter meter most room = omega (arith, so_many, room, mul-le (rounds * nurses) (greatest_extension_count c) searches (greatest_extension_count c) few (omega arith))
 
   all_of : extensions_of c searches ≡ extensions_of c (searches - rounds * nurses) + extensions_of c (rounds * nurses)
   all_of =

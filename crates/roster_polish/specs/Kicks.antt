@@ -9,31 +9,34 @@ use Rattle.roster_laws.specs.OneRow.{is_offered, price}
 use Rattle.roster_offers.specs.declared.offer.Offer.{Offer}
 use Rattle.roster_offers.specs.Offers.{cheapest_by_shift, offers_by}
 use Rattle.roster_offers.specs.Lists.{most_price, offers_on}
-use Rattle.roster_places.specs.Tables.{worths_of}
-use Rattle.roster_worths.specs.Worths.{price_by}
+use Rattle.roster_slots.specs.Tables.{slot_prices}
+use Rattle.roster_prices.specs.LowerBounds.{price_by}
 use Rattle.roster_polish.specs.declared.offers.Kick.{Kick}
 
--- a kick has a worth for each place of the case, and nine numbers for each day
+-- a kick has a dual price for each slot of the case, and nine numbers for each day
 pub record FitsKick (c : Meaning) (kick : Kick) : Type 0 where
-  pub worths : kick.worths.now.days ≡ day_count c
+  pub dual_prices : kick.dual_prices.now.days ≡ day_count c
   pub dearer : length kick.dearer.now ≡ 9 * day_count c
 
 -- the week before which all is frozen, as it is for a day: a day outside of the open weeks is frozen too
 abbrev pub from_on : Kick → ℕ → ℕ
-from_on kick d = if not (nat_lt (d / 7) kick.first) && nat_lt (d / 7) kick.last then kick.from else max kick.from (d / 7 + 1)
+from_on kick d =
+    if not (nat_lt (d / 7) kick.first) && nat_lt (d / 7) kick.last then kick.from
+    else max kick.from (d / 7 + 1)
 
 abbrev pub kick_offered : Meaning → Rows → ℕ → Kick → ℕ → Choice → Bool
 kick_offered c r n kick d choice = is_offered c (from_on kick d) r n d choice
 
--- the place of a choice among the nine of a day: to be off, then the shifts
-abbrev pub shift_place : Choice → ℕ
-shift_place Off = 0
-shift_place (Work s k) = 1 + s.0
+-- the index of a choice among the nine of a day: to be off, then the shifts
+abbrev pub shift_index : Choice → ℕ
+shift_index Off = 0
+shift_index (Work s k) = 1 + s.0
 
--- the price by worths or the true one, and by how much the shift is dearer
+-- the price by dual prices or the true one, plus the points by which the shift is dearer
 abbrev pub price_from : Meaning → ℕ → Kick → ℕ → Choice → ℕ → ℕ
 price_from c n kick d choice true_price =
-    min ((if kick.by_worth then price_by c (worths_of kick.worths.now) n d choice else true_price) + slice_index_or kick.dearer.now (9 * d + shift_place choice) 0) most_price
+    min ((if kick.by_dual_price then price_by c (slot_prices kick.dual_prices.now) n d choice else true_price)
+    + slice_index_or kick.dearer.now (9 * d + shift_index choice) 0) most_price
 
 abbrev pub kick_price : Meaning → Rows → ℕ → Kick → ℕ → Choice → ℕ
 kick_price c r n kick d choice = price_from c n kick d choice (price c r n d choice)
@@ -42,7 +45,8 @@ kick_price c r n kick d choice = price_from c n kick d choice (price c r n d cho
 abbrev pub kick_offers : Meaning → Rows → ℕ → Kick → ℕ → List Offer
 kick_offers c r n kick d = cheapest_by_shift (offers_by c (kick_offered c r n kick) (kick_price c r n kick) d)
 
--- a table of them, a list for each day
-pub record AreKickOffers (c : Meaning) (r : Rows) (n : ℕ) (kick : Kick) (offers : List (ArrayVec Offer)) : Type 0 where
+-- the offers of all days, a list for each
+pub record AreKickOffers (c : Meaning) (r : Rows) (n : ℕ) (kick : Kick)
+    (offers : List (ArrayVec Offer)) : Type 0 where
   pub days : length offers ≡ day_count c
   pub each : (day : ℕ) → day < day_count c → offers_on offers day ≡ kick_offers c r n kick day

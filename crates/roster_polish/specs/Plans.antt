@@ -11,11 +11,13 @@ use Rattle.roster_costs.specs.Minimums.{missing}
 abbrev pub keeps_rows : Meaning → Rows → Bool
 keeps_rows c r = is_none_of (succession_faults c r) && is_none_of (absence_faults c r)
 
--- a roster that breaks a hard rule misses no more nurses than the given one does, if that breaks minimums alone
+-- a roster that breaks a hard rule is short of no more nurses than the given one, if that breaks minimums
+-- alone
 abbrev pub IsNoFarther : Meaning → (given r : Rows) → Type 0
 IsNoFarther c given r = keeps_hard c r ≡ false → keeps_rows c given ≡ true → missing c r ≤ missing c given
 
--- what a plan makes of a given roster: one that keeps the hard rules stays, and else it gets no farther, with its frozen days
+-- what a plan makes of a given roster: one that keeps the hard rules stays, and else it gets no farther, with
+-- its frozen days
 pub record IsPlanned (c : Meaning) (from : ℕ) (given r : Rows) : Type 0 where
   pub kept : keeps_hard c given ≡ true → r ≡ given
   pub nearer : IsNoFarther c given r

@@ -1,4 +1,4 @@
--- What a run of kicks comes to, and what its log tells (our own).
+-- What a run of a fade and kicks comes to, and what its log says (our own).
 use Rattle.std.specs.Prelude.{◌≡◌, ℕ, zero, suc, ◌+◌, ◌-◌, ◌*◌, ◌⊎◌, ◌<◌, ◌≤◌, All, Bool, true, List, [], ◌∷◌, ◌++◌, codes, decimal, flat_map, if◌then◌else◌, length, map, nat_lt, IfSome, None, Option, Some}
 use Rattle.roster_text.specs.Io.{StopsAt, Watched, Writes, saturated}
 use Rattle.roster_instance.specs.Meaning.{Meaning, day_count, nurse_count}
@@ -10,57 +10,59 @@ use Rattle.roster_rules.specs.AllowedRows.{best_row}
 use Rattle.roster_rules.specs.Improver.{Run, line, round, run, same_rows, start_word}
 use Rattle.roster_log.specs.declared.fault.LogFault.{LogFault}
 use Rattle.roster_log.specs.declared.fault.LogFault.TheVariants.{LogFailed}
-use Rattle.roster_row.specs.Known.{IsKnown}
-use Rattle.roster_worths.specs.Workspaces.{FitsFloor}
+use Rattle.roster_row.specs.Recalled.{RecallsSearches}
+use Rattle.roster_prices.specs.Workspaces.{FitsBound}
 use Rattle.roster_polish.specs.declared.run.Polished.{Polished}
 use Rattle.roster_polish.specs.declared.space.PolishSpace.{PolishSpace}
 use Rattle.roster_polish.specs.Settled.{IsSettled}
 
--- ---- the first settling
+-- ---- the first descent
 
--- the most rounds of it
-abbrev pub settling_rounds : ℕ
-settling_rounds = 1000000
+-- how many rounds it makes at most
+abbrev pub descent_rounds : ℕ
+descent_rounds = 1000000
 
--- that is `improve`: settled for sure where the given roster costs less than 5 * settling_rounds
+-- this is `improve`: surely settled if the given roster costs less than 5 * descent_rounds
 abbrev pub first_run : Meaning → ℕ → Rows → Run
-first_run c from given = run c (best_row c from) settling_rounds given
+first_run c from given = run c (best_row c from) descent_rounds given
 
--- why a settling is given up: no search is left, the roster is dearer than is asked, or it was so dear that all rounds may not be enough
+-- why a descent is given up: no search is left, the roster is dearer than is asked, or it was so dear that
+-- all rounds may not be enough
 abbrev pub IsGivenUp : Meaning → (aim left : ℕ) → (before after : Rows) → Type 0
-IsGivenUp c aim left before after = (left ≡ 0) ⊎ (aim < penalty c after) ⊎ (settling_rounds ≤ penalty c before + 1)
+IsGivenUp c aim left before after =
+    (left ≡ 0) ⊎ (aim < penalty c after) ⊎ (descent_rounds ≤ penalty c before + 1)
 
--- how many rounds a run of at most so many makes: it ends with the first that changes nothing
+-- how many rounds a run of at most this many makes: it ends with the first that changes nothing
 unfoldable pub rounds_made : Meaning → ℕ → (rounds : ℕ) → Rows → ℕ
 rounds_made c from zero r = 0
 rounds_made c from (suc rounds) r =
     let next = round c (best_row c from) r in
     if same_rows next r then 1 else suc (rounds_made c from rounds next)
 
--- how many searches the first settling makes at most: one for each nurse in each of its rounds
-abbrev pub settling_searches : Meaning → ℕ → Rows → ℕ
-settling_searches c from given = rounds_made c from settling_rounds given * nurse_count c
+-- how many searches the first descent makes at most: one for each nurse in each of its rounds
+abbrev pub descent_searches : Meaning → ℕ → Rows → ℕ
+descent_searches c from given = rounds_made c from descent_rounds given * nurse_count c
 
 -- ---- the memory of a run
 
--- room for floors, what true searches told at last and of the kept roster, nine numbers for each day, and a roster of the case; for a
--- fade what each place pays, a roster more, and an order of the nurses
+-- that for lower bounds, the last searches by true prices, also of the kept roster, nine numbers for each
+-- day, and a roster of the case; for a fade what each slot pays, one more roster, and an order of the nurses
 pub record FitsPolish {T : Type 0} (c : Meaning) (w : PolishSpace T) : Type 0 where
-  pub floor : FitsFloor c w.floor
-  pub known : IsKnown c w.last
-  pub kept_known : IsKnown c w.kept_last
+  pub bounds : FitsBound c w.bounds
+  pub recalls : RecallsSearches c w.last
+  pub kept_recalls : RecallsSearches c w.kept_last
   pub dearer : length w.dearer.items ≡ 9 * day_count c
   pub kept : fits_case c w.kept ≡ true
-  pub pays : w.pays.days ≡ day_count c
+  pub fade_prices : w.fade_prices.days ≡ day_count c
   pub faded : fits_case c w.faded ≡ true
   pub count : length w.order.items ≡ nurse_count c
   pub order : All (λ n. n < nurse_count c) w.order.items
 
--- how many searches the first settling makes at most, from whatever roster
+-- how many searches the first descent makes at most, from any roster
 abbrev pub first_searches : Meaning → ℕ
-first_searches c = settling_rounds * nurse_count c
+first_searches c = descent_rounds * nurse_count c
 
--- the most searches beside these for which a new meter surely has room
+-- the greatest number of searches besides these that a new meter can surely count
 abbrev pub most_searches : ℕ
 most_searches = 10000000
 
@@ -71,13 +73,14 @@ pub record IsReached (c : Meaning) (from : ℕ) (given r : Rows) : Type 0 where
   pub accepted : IsAccepted c r
   pub stays : FrozenDaysStay c from given r
 
--- the roster that is kept after a fade: it may be kept, it is settled, and no dearer than where the first settling led
+-- the roster that is kept after a fade: it may be kept, it is settled, and no dearer than that of the first
+-- descent
 pub record IsFaded (c : Meaning) (from : ℕ) (given first r : Rows) : Type 0 where
   pub reached : IsReached c from given r
   pub is_settled : IsSettled c from r
   pub no_dearer : penalty c r ≤ penalty c first
 
--- where the kicks begin: at that roster, or where the first settling led if no fade is kept
+-- where the kicks begin: at that roster, or at that of the first descent if no fade is kept
 abbrev pub begun : Option Rows → Rows → Rows
 begun None first = first
 begun (Some r) first = r
@@ -91,7 +94,7 @@ pub record KickLine : Type 0 where
 abbrev pub no_kick : Rows → KickLine
 no_kick first = record { kick = 0; roster = first }
 
--- the last of some lines, or the one before them where there is none
+-- the last of some lines, or the one before them if there is none
 abbrev pub last_kick : KickLine → List KickLine → KickLine
 last_kick before [] = before
 last_kick before (x ∷ xs) = last_kick x xs
@@ -99,15 +102,18 @@ last_kick before (x ∷ xs) = last_kick x xs
 -- later kicks, cheaper rosters
 abbrev pub Falls : Meaning → KickLine → List KickLine → Type 0
 Falls c before [] = Unit {0}
-Falls c before (x ∷ xs) = (before.kick < x.kick) × (penalty c x.roster < penalty c before.roster) × Falls c x xs
+Falls c before (x ∷ xs) =
+    (before.kick < x.kick) × (penalty c x.roster < penalty c before.roster) × Falls c x xs
 
--- each line's roster may be kept and is settled, and is cheaper than the one before; no kick is beyond the number of kicks
-pub record IsKickLog (c : Meaning) (from : ℕ) (given first : Rows) (kicks : ℕ) (lines : List KickLine) : Type 0 where
+-- each line's roster may be kept and is settled, and is cheaper than the one before; no kick is beyond the
+-- number of kicks
+pub record IsKickLog (c : Meaning) (from : ℕ) (given first : Rows) (kicks : ℕ)
+    (lines : List KickLine) : Type 0 where
   pub reached : All (λ x. IsReached c from given x.roster × IsSettled c from x.roster) lines
   pub falls : Falls c (no_kick first) lines
   pub within : (last_kick (no_kick first) lines).kick ≤ kicks
 
--- ---- the text: a number of the given roster, its penalty for `polish`; the penalties of the one after a fade, of each that is cheaper after a kick, and of the last
+-- ---- the text: a number for the given roster, then the penalties after a fade, after kicks and at the end
 
 abbrev pub fade_line : Meaning → Rows → List ℕ
 fade_line c r = line (codes "fade") (penalty c r)
@@ -120,7 +126,8 @@ abbrev pub kick_line : Meaning → KickLine → List ℕ
 kick_line c x = line (codes "kick " ++ decimal x.kick) (penalty c x.roster)
 
 abbrev pub kicks_text : Meaning → ℕ → Option Rows → List KickLine → List ℕ
-kicks_text c start fade lines = line (start_word c) start ++ (fade_text c fade ++ flat_map (kick_line c) lines)
+kicks_text c start fade lines =
+    line (start_word c) start ++ (fade_text c fade ++ flat_map (kick_line c) lines)
 
 abbrev pub last_line : Meaning → Bool → Rows → List ℕ
 last_line c settled r = line (if settled then codes "settled" else codes "stopped") (penalty c r)
@@ -128,62 +135,73 @@ last_line c settled r = line (if settled then codes "settled" else codes "stoppe
 -- ---- the roster at a line
 
 -- a line, and the roster that is held while it goes out
-pub record Told : Type 0 where
+pub record LogEntry : Type 0 where
   pub text : List ℕ
   pub roster : Rows
 
-abbrev pub told_fade : Meaning → Option Rows → List Told
-told_fade c None = []
-told_fade c (Some r) = record { text = fade_line c r; roster = r } ∷ []
+abbrev pub fade_entry : Meaning → Option Rows → List LogEntry
+fade_entry c None = []
+fade_entry c (Some r) = record { text = fade_line c r; roster = r } ∷ []
 
-abbrev pub told_kick : Meaning → KickLine → Told
-told_kick c x = record { text = kick_line c x; roster = x.roster }
+abbrev pub kick_entry : Meaning → KickLine → LogEntry
+kick_entry c x = record { text = kick_line c x; roster = x.roster }
 
-abbrev pub told_start : Meaning → ℕ → Rows → Told
-told_start c start given = record { text = line (start_word c) start; roster = given }
+abbrev pub start_entry : Meaning → ℕ → Rows → LogEntry
+start_entry c start given = record { text = line (start_word c) start; roster = given }
 
-abbrev pub told_last : Meaning → Bool → Rows → Told
-told_last c settled last = record { text = last_line c settled last; roster = last }
+abbrev pub last_entry : Meaning → Bool → Rows → LogEntry
+last_entry c settled last = record { text = last_line c settled last; roster = last }
 
-abbrev pub told_lines : Meaning → Rows → ℕ → Option Rows → List KickLine → Bool → Rows → List Told
-told_lines c given start fade lines settled last = told_start c start given ∷ (told_fade c fade ++ (map (told_kick c) lines ++ told_last c settled last ∷ []))
+abbrev pub log_entries : Meaning → Rows → ℕ → Option Rows → List KickLine → Bool → Rows → List LogEntry
+log_entries c given start fade lines settled last =
+    start_entry c start given
+    ∷ (fade_entry c fade ++ (map (kick_entry c) lines ++ last_entry c settled last ∷ []))
 
--- where so many bytes went out, the roster of the first line that didn't wholly go out
-abbrev pub held_at : ℕ → List Told → Rows → Rows
+-- if this many bytes went out, the roster of the first line that didn't wholly go out
+abbrev pub held_at : ℕ → List LogEntry → Rows → Rows
 held_at sent [] r = r
-held_at sent (x ∷ xs) r = if nat_lt sent (length x.text) then x.roster else held_at (sent - length x.text) xs r
+held_at sent (x ∷ xs) r =
+    if nat_lt sent (length x.text) then x.roster else held_at (sent - length x.text) xs r
 
 -- ---- a run
 
--- from the given roster to the last, by a fade, unless kicks alone are asked for, and by kicks, from where the first settling led;
--- the last roster is as dear as the last line says, and settled where that is said, as it surely is where the first settling came to
--- its end; with this log
-pub record IsPolishing (c : Meaning) (from : ℕ) (given : Rows) (start kicks : ℕ) (alone settled : Bool) (last : Rows) (text : List ℕ) : Type 0 where
+-- from the given roster to the last, by a fade, unless kicks alone are asked for, and by kicks, from the
+-- roster of the first descent; the last roster is as dear as the last line says, and settled if that is said,
+-- as it surely is if the first descent came to its end; with this log
+pub record IsPolishing (c : Meaning) (from : ℕ) (given : Rows) (start kicks : ℕ) (alone settled : Bool)
+    (last : Rows) (text : List ℕ) : Type 0 where
   pub fade : Option Rows
   pub fadeless : alone ≡ true → fade ≡ None
   pub faded : IfSome fade (IsFaded c from given (first_run c from given).roster)
   pub lines : List KickLine
   pub is_log : IsKickLog c from given (begun fade (first_run c from given).roster) kicks lines
   pub reached : IsReached c from given last
-  pub as_told : penalty c last ≡ penalty c (last_kick (no_kick (begun fade (first_run c from given).roster)) lines).roster
+  pub as_logged : penalty c last
+      ≡ penalty c (last_kick (no_kick (begun fade (first_run c from given).roster)) lines).roster
   pub no_dearer : penalty c last ≤ penalty c given
   pub is_settled : settled ≡ true → IsSettled c from last
   pub surely : (first_run c from given).is_settled ≡ true → settled ≡ true
   pub text_is : text ≡ kicks_text c start fade lines ++ last_line c settled last
 
 -- the log of a run went out, and the answer is what it came to
-pub record Polishes {W : Type 0} (contents : W → Option (List ℕ)) (c : Meaning) (from : ℕ) (given : Rows) (start kicks : ℕ) (alone : Bool) (after : Rows) (old new : Watched W) (told : Polished) : Type 0 where
+pub record Polishes {W : Type 0} (contents : W → Option (List ℕ)) (c : Meaning) (from : ℕ) (given : Rows)
+    (start kicks : ℕ) (alone : Bool) (after : Rows) (old new : Watched W) (logged : Polished) : Type 0 where
   pub text : List ℕ
-  pub run : IsPolishing c from given start kicks alone told.settled after text
+  pub run : IsPolishing c from given start kicks alone logged.settled after text
   pub writes : Writes contents old new text
-  pub total : told.total ≡ penalty c after
+  pub total : logged.total ≡ penalty c after
 
 -- the log begins with the penalty of the given roster
-abbrev pub PolishesGiven : {W : Type 0} → (W → Option (List ℕ)) → Meaning → ℕ → Rows → ℕ → Bool → Rows → Watched W → Watched W → Polished → Type 0
-PolishesGiven contents c from given kicks alone after old new = Polishes contents c from given (penalty c given) kicks alone after old new
+abbrev pub PolishesGiven : {W : Type 0} → (W → Option (List ℕ)) → Meaning → ℕ → Rows → ℕ → Bool → Rows
+    → Watched W → Watched W → Polished → Type 0
+PolishesGiven contents c from given kicks alone after old new =
+    Polishes contents c from given (penalty c given) kicks alone after old new
 
--- just the first bytes of the log of a run went out, and the roster is that of the line at which the log failed
-pub record PolishLogStops {W : Type 0} (contents : W → Option (List ℕ)) (c : Meaning) (from : ℕ) (given : Rows) (start kicks : ℕ) (alone : Bool) (after : Rows) (old new : Watched W) (fault : LogFault) : Type 0 where
+-- only the first bytes of the log of a run went out, and the roster is that of the line at which the log
+-- failed
+pub record PolishLogStops {W : Type 0} (contents : W → Option (List ℕ)) (c : Meaning)
+    (from : ℕ) (given : Rows) (start kicks : ℕ) (alone : Bool) (after : Rows) (old new : Watched W)
+    (fault : LogFault) : Type 0 where
   pub settled : Bool
   pub last : Rows
   pub text : List ℕ
@@ -191,9 +209,11 @@ pub record PolishLogStops {W : Type 0} (contents : W → Option (List ℕ)) (c :
   pub sent : ℕ
   pub stops : StopsAt contents old new text sent
   pub counted : fault ≡ LogFailed (saturated sent)
-  pub held : after ≡ held_at sent (told_lines c given start run.fade run.lines settled last) given
+  pub held : after ≡ held_at sent (log_entries c given start run.fade run.lines settled last) given
   pub reached : IsReached c from given after
 
 -- the log begins with the penalty of the given roster
-abbrev pub GivenLogStops : {W : Type 0} → (W → Option (List ℕ)) → Meaning → ℕ → Rows → ℕ → Bool → Rows → Watched W → Watched W → LogFault → Type 0
-GivenLogStops contents c from given kicks alone after old new = PolishLogStops contents c from given (penalty c given) kicks alone after old new
+abbrev pub GivenLogStops : {W : Type 0} → (W → Option (List ℕ)) → Meaning → ℕ → Rows → ℕ → Bool → Rows
+    → Watched W → Watched W → LogFault → Type 0
+GivenLogStops contents c from given kicks alone after old new =
+    PolishLogStops contents c from given (penalty c given) kicks alone after old new

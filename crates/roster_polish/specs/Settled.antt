@@ -1,4 +1,4 @@
--- A roster to which no step adds anything, and searches that are paid for (our own).
+-- A roster that no single row improves, and how searches are counted (our own).
 use Rattle.std.specs.Prelude.{ℕ, ◌+◌, ◌*◌, ◌<◌, ◌≤◌}
 use Rattle.roster_instance.specs.Meaning.{Meaning, nurse_count}
 use Rattle.roster_instance.specs.Rosters.{Rows}
@@ -9,7 +9,7 @@ use Rattle.roster_laws.specs.Settled.{HasBestRow}
 abbrev pub IsSettled : Meaning → ℕ → Rows → Type 0
 IsSettled c from r = (n : ℕ) → n < nurse_count c → HasBestRow c from r n
 
--- what a number of searches counts on the meter at most
+-- how many extensions a number of searches counts on the meter at most
 abbrev pub extensions_of : Meaning → ℕ → ℕ
 extensions_of c searches = searches * greatest_extension_count c
 

@@ -1,4 +1,4 @@
--- What is left of the held roster, the kept one and the searches once a fade or a kick was tried (our own).
+-- What the held roster, the kept one and the searches are after a fade or a kick was tried (our own).
 use Rattle.std.specs.Prelude.{◌≡◌, ◌+◌, ◌≤◌, ℕ, Bool, false, true}
 use Rattle.roster_bundle.specs.Limits.{greatest_u64}
 use Rattle.roster_case.specs.Held.{HeldRoster}
@@ -11,20 +11,23 @@ use Rattle.roster_polish.specs.declared.space.PolishSpace.{PolishSpace}
 use Rattle.roster_polish.specs.Polished.{FitsPolish}
 use Rattle.roster_polish.specs.Settled.{IsSettled, Spends, extensions_of}
 
--- searches can be made: there is memory for the case, and room on the meter for the searches that are left
-pub record CanSearch {T : Type 0} (c : Meaning) (searches : Searches) (space : PolishSpace T) (meter : ℕ) : Type 0 where
+-- searches can be made: there is memory for the case, and the meter can count the searches that are left
+pub record CanSearch {T : Type 0} (c : Meaning) (searches : Searches) (space : PolishSpace T)
+    (meter : ℕ) : Type 0 where
   -- the memory is that of a run over the case
   pub fits : FitsPolish c space
   -- the meter can count all that these searches may
   pub room : meter + extensions_of c searches.left ≤ greatest_u64
 
--- a roster that was changed stays where it is settled and no dearer than the one that was kept; else that one comes back
-pub record StaysNoDearer {T : Type 0} (c : Meaning) (from : ℕ) (given : Rows) (held : HeldRoster) (searches_old searches : Searches) (space : PolishSpace T) (meter_old meter : ℕ) (result : Bool) : Type 0 where
+-- a changed roster stays if it is settled and no dearer than the kept one; else the kept one comes back
+pub record StaysNoDearer {T : Type 0} (c : Meaning) (from : ℕ) (given : Rows)
+    (held : HeldRoster) (searches_old searches : Searches) (space : PolishSpace T) (meter_old meter : ℕ)
+    (result : Bool) : Type 0 where
   -- the case is the same
   pub case : held.case ≡ c
   -- what is held is what is kept
   pub kept : space.kept ≡ held.roster
-  -- where the roster stayed, no nurse has a cheaper row
+  -- if the roster stayed, no nurse has a cheaper row
   pub stayed : result ≡ true → IsSettled c from held.roster
   -- else it is the one that was kept
   pub back : result ≡ false → held.roster ≡ given
@@ -38,7 +41,8 @@ pub record StaysNoDearer {T : Type 0} (c : Meaning) (from : ℕ) (given : Rows) 
   pub fits : FitsPolish c space
 
 -- nurses were kicked out of their rows
-pub record AreKicked {T : Type 0} (from : ℕ) (held_old held : HeldRoster) (searches_old searches : Searches) (space_old space : PolishSpace T) (meter_old meter : ℕ) : Type 0 where
+pub record AreKicked {T : Type 0} (from : ℕ) (held_old held : HeldRoster) (searches_old searches : Searches)
+    (space_old space : PolishSpace T) (meter_old meter : ℕ) : Type 0 where
   -- the case is the same
   pub case : held.case ≡ held_old.case
   -- what is kept stays
@@ -47,5 +51,5 @@ pub record AreKicked {T : Type 0} (from : ℕ) (held_old held : HeldRoster) (sea
   pub frozen : FrozenDaysStay held_old.case from held_old.roster held.roster
   -- the searches were among those that were left, and the meter has counted them
   pub spends : Spends held_old.case meter_old searches_old.left meter searches.left
-  -- the memory serves the settling
+  -- the memory serves the descent
   pub fits : FitsPolish held_old.case space

@@ -1,4 +1,5 @@
-//! A fade: the nurses get their best rows by what places pay, pass by pass, while that turns from the worths into the true prices.
+//! A fade, which is a Lagrangian heuristic: pass after pass the nurses get their best rows by what slots pay,
+//! and that goes from dual prices to what cover really costs.
 
 ghost use Rattle.std.specs.Prelude.{◌≡◌, ◌+◌, ◌<◌, ◌≤◌, ℕ, All, false, length, true};
 ghost use Rattle.roster_bundle.specs.Limits.{greatest_u64};
@@ -11,37 +12,38 @@ ghost use Rattle.roster_polish.specs.Fades.{AreFaded};
 ghost use Rattle.roster_polish.specs.Polished.{FitsPolish};
 ghost use Rattle.roster_polish.specs.Tries.{CanSearch, StaysNoDearer};
 
+use crate::descend::Aim;
 use crate::kick::Kicking;
 use crate::random::Random;
-use crate::settle::Aim;
 use crate::space::PolishSpace;
 use crate::stay::stay_if_no_dearer;
 use crate::visit::{Turn, visit};
 use roster_case::Held;
 use roster_costs::first_hard;
-use roster_offers::RowTables;
-use roster_places::PARTS;
-use roster_state::Meter;
-use roster_worths::{
-    Base, Fading, Terms, WHOLE, follow_cover, lacks_nurses, pay_places, put_row, take_row,
+use roster_offers::SearchesRows;
+use roster_prices::{
+    Base, Fading, Terms, WHOLE, follow_cover, has_uncovered_slot, price_slots, put_row, take_row,
 };
+use roster_slots::FINE_PER_POINT;
+use roster_state::Meter;
 
-/// How many passes a fade makes besides where places are below their minimums: two, and two, and two again.
+/// How many more passes a fade makes if slots are below their minimums: three times two.
 const MORE_PASSES: u64 = 6;
 
-/// What a place below its minimum pays besides, in points. It pays three times as much in each two passes more.
-const MISSING: u32 = 100;
+/// How many points more a slot below its minimum pays. In each two of the additional passes that is three
+/// times as many.
+const BELOW_MINIMUM: u32 = 100;
 
-/// How long a fade is: so many passes, and so many searches, after which its last passes follow at once.
+/// The length of a fade: its passes, and its searches, after which its last passes follow at once.
 #[derive(Clone, Copy)]
 struct Length {
     passes: u64,
     searches: u64,
 }
 
-/// Fades the roster and settles it again. Where it is then no dearer, it stays and is kept; else the roster that was kept comes back.
-/// Says whether it stayed.
-pub(crate) fn try_fade<T: RowTables>(
+/// Fades the roster and runs a descent. If the roster is then settled and no dearer, it stays and is kept;
+/// else the kept one comes back. Returns whether it stayed.
+pub(crate) fn try_fade<T: SearchesRows>(
     held: &mut Held,
     from: u16,
     kicking: &mut Kicking,
@@ -72,8 +74,8 @@ pub(crate) fn try_fade<T: RowTables>(
     stay_if_no_dearer(held, aim, &mut kicking.searches, space, meter)
 }
 
-/// Fades rows, and says whether they keep the hard rules then. The frozen days are as they are given.
-pub(crate) fn fade_rows<T: RowTables>(
+/// Fades rows, and returns whether they then keep the hard rules. The frozen days are as given.
+pub(crate) fn fade_rows<T: SearchesRows>(
     base: &Base<'_>,
     kicking: &mut Kicking,
     space: &mut PolishSpace<T>,
@@ -89,7 +91,9 @@ pub(crate) fn fade_rows<T: RowTables>(
     let before = kicking.searches.left;
     let length = Length {
         passes: kicking.passes,
-        searches: (kicking.passes / kicking.turns.max(1)).saturating_mul(base.case.nurses() as u64),
+        searches: (kicking.passes / kicking.passes_per_search.max(1)).saturating_mul(
+            base.case.nurses() as u64,
+        ),
     };
     space.begin_fade(base.case, base.given);
     for pass in 0..length.passes.saturating_add(MORE_PASSES) {
@@ -97,7 +101,7 @@ pub(crate) fn fade_rows<T: RowTables>(
             break;
         }
         let is_more = pass >= length.passes && (pass - length.passes) % 2 == 0;
-        if is_more && !lacks_nurses(base.case, &space.floor) {
+        if is_more && !has_uncovered_slot(base.case, &space.bounds) {
             break;
         }
         let made = before - kicking.searches.left;
@@ -107,47 +111,50 @@ pub(crate) fn fade_rows<T: RowTables>(
         let fading = fading_in(pass, made, length);
         make_fade_pass(base, fading, kicking, space, meter);
         let step = step_in(fading.share, length.passes);
-        follow_cover(base.case, step, &mut space.floor);
+        follow_cover(base.case, step, &mut space.bounds);
     }
     first_hard(base.case, &space.faded).is_none()
 }
 
-/// So many passes of a fade go by the true prices alone.
+/// How many passes at the end of a fade go by the true prices alone.
 const LAST_PASSES: u64 = 2;
 
-/// How far a fade has come in one of its passes, so many searches having been made: from worths alone to none in the last two, evenly, and
-/// on from there. It comes sooner where the last quarter of its searches says so.
+/// How far a fade has come in one of its passes, after `made` searches. The share of the dual prices falls
+/// evenly from all to none, which it has in the last two passes and from there on. It falls sooner if the
+/// last quarter of the searches requires that.
 fn fading_in(pass: u64, made: u64, length: Length) -> Fading {
     let even = length.passes.saturating_sub(LAST_PASSES);
     let quarters = length.searches.saturating_sub(made).saturating_mul(4);
-    let share = part_of(even.saturating_sub(pass), even).min(part_of(quarters, length.searches));
+    let share = share_of(even.saturating_sub(pass), even).min(share_of(quarters, length.searches));
     Fading {
         share,
-        missing: MISSING * times_in(pass, length.passes),
+        missing: BELOW_MINIMUM * times_in(pass, length.passes),
     }
 }
 
-/// A part of all, in 1024ths.
-fn part_of(part: u64, all: u64) -> u32 {
+/// How much `part` is of `all`, in 1024ths.
+fn share_of(part: u64, all: u64) -> u32 {
     let whole = WHOLE as u64;
     (whole.saturating_mul(part) / all.max(1)).min(whole) as u32
 }
 
-/// How far worths move after a pass, in parts of a point: the fewer passes there are the farther, by the share that the worths have.
+/// How far dual prices move after a pass, in fine units: farther the fewer passes there are, and by the share
+/// that they have in what slots pay.
 fn step_in(share: u32, passes: u64) -> u32 {
     let most = (ALL_STEPS / passes.max(1)).clamp(LEAST_STEP, MOST_STEP);
     most as u32 * share.min(WHOLE) / WHOLE
 }
 
-/// How far a worth moves in all passes together, some 156 points, as far as the least and the most for one pass let it: a quarter of a
-/// point, and two.
-const ALL_STEPS: u64 = 40_000 * PARTS as u64 / 256;
+/// How far a dual price moves in all passes together: some 156 points, unless the least or the greatest step
+/// of one pass, a quarter of a point and two points, changes that.
+const ALL_STEPS: u64 = 40_000 * FINE_PER_POINT as u64 / 256;
 
-const LEAST_STEP: u64 = PARTS as u64 / 4;
+const LEAST_STEP: u64 = FINE_PER_POINT as u64 / 4;
 
-const MOST_STEP: u64 = PARTS as u64 * 2;
+const MOST_STEP: u64 = FINE_PER_POINT as u64 * 2;
 
-/// How many times as much a place below its minimum pays in a pass: three times in the first two that are made besides.
+/// How many times as much a slot below its minimum pays in a pass: three times in the first two additional
+/// ones.
 fn times_in(pass: u64, passes: u64) -> u32
     ensures { result ≤ 27 }
 {
@@ -161,9 +168,9 @@ fn times_in(pass: u64, passes: u64) -> u32
     }
 }
 
-/// Gives each nurse, in an order that is drawn, the best row by what the places pay without the nurse's row, but for those who can gain
-/// little. The first one is never left out.
-pub(crate) fn make_fade_pass<T: RowTables>(
+/// Gives each nurse, in an order that is drawn, the best row by what the slots pay without her row. Nurses
+/// who can gain little are left out, but never the first one.
+pub(crate) fn make_fade_pass<T: SearchesRows>(
     base: &Base<'_>,
     fading: Fading,
     kicking: &mut Kicking,
@@ -179,25 +186,25 @@ pub(crate) fn make_fade_pass<T: RowTables>(
         meter.new }
 {
     base.case.keeps_limits();
-    pay_places(base.case, fading, &space.floor, &mut space.pays);
+    price_slots(base.case, fading, &space.bounds, &mut space.fade_prices);
     shuffle(&mut space.order, &mut kicking.random);
-    for place in 0..base.case.nurses() {
+    for position in 0..base.case.nurses() {
         if kicking.searches.left == 0 {
             break;
         }
-        let nurse = space.order[place];
+        let nurse = space.order[position];
         let turn = Turn {
             nurse,
-            surely: place == 0,
+            surely: position == 0,
         };
         let searched = fade_nurse(base, turn, fading, space, meter);
         kicking.searches.take_if(searched);
     }
 }
 
-/// Gives a nurse the best row by what the places pay without the present one, or leaves her out. The frozen days are as they are given.
-/// Says whether she was searched.
-fn fade_nurse<T: RowTables>(
+/// Gives a nurse the best row by what the slots pay without her present one, or leaves her out. The frozen
+/// days are as given. Returns whether she was searched.
+fn fade_nurse<T: SearchesRows>(
     base: &Base<'_>,
     turn: Turn,
     fading: Fading,
@@ -219,38 +226,38 @@ fn fade_nurse<T: RowTables>(
     ensures fits { FitsPolish base.now.case.now space.new }
 {
     let PolishSpace {
-        floor,
+        bounds,
         last,
-        pays,
+        fade_prices,
         faded,
         ..
     } = space;
     let (case, nurse) = (base.case, turn.nurse);
-    take_row(case, faded.row(nurse), fading, floor, pays);
+    take_row(case, faded.row(nurse), fading, bounds, fade_prices);
     let terms = Terms {
         case,
-        worths: pays,
+        dual_prices: fade_prices,
         given: base.given,
         from: base.from,
     };
-    let workspace = &mut floor.rows.workspace;
+    let workspace = &mut bounds.rows.workspace;
     let searched = visit(&terms, turn, faded.row(nurse), workspace, last, meter);
     if searched {
-        faded.put_row(nurse, floor.rows.workspace.row());
+        faded.put_row(nurse, bounds.rows.workspace.row());
     }
-    put_row(case, faded.row(nurse), fading, floor, pays);
+    put_row(case, faded.row(nurse), fading, bounds, fade_prices);
     searched
 }
 
-/// Draws an order.
+/// Shuffles an order.
 fn shuffle(order: &mut [usize], random: &mut Random)
     requires few { length order.old ≤ most_nurses }
     ensures count { length order.new ≡ length order.old }
     ensures each { (end : ℕ) → All (λ n. n < end) order.old → All (λ n. n < end) order.new }
 {
     let count = order.len();
-    for place in 0..count {
-        let other = place + random.below((count - place) as u32) as usize;
-        order.swap(place, other);
+    for position in 0..count {
+        let other = position + random.below((count - position) as u32) as usize;
+        order.swap(position, other);
     }
 }

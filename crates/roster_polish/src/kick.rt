@@ -1,4 +1,5 @@
-//! A kick: a few nurses get the best rows by other prices, and the roster is settled again.
+//! A kick: a few nurses get the best rows by other prices, which are partly random, and then a descent
+//! follows.
 
 ghost use Rattle.std.specs.Prelude.{◌≡◌, ◌+◌, ◌<◌, ◌≤◌, length, true, min};
 ghost use Rattle.roster_bundle.specs.Limits.{greatest_u64};
@@ -9,40 +10,40 @@ ghost use Rattle.roster_offers.specs.Workspaces.{fits_space};
 ghost use Rattle.roster_polish.specs.Kicks.{FitsKick};
 ghost use Rattle.roster_polish.specs.Tries.{AreKicked, CanSearch, StaysNoDearer};
 
+use crate::descend::Aim;
 use crate::offers::{Kick, offer_days};
 use crate::random::Random;
 use crate::searches::Searches;
-use crate::settle::Aim;
 use crate::space::PolishSpace;
 use crate::stay::stay_if_no_dearer;
 use roster_case::Held;
-use roster_offers::{RowTables, Workspace};
+use roster_offers::{SearchesRows, Workspace};
 use roster_state::Meter;
 
-/// What a fade and kicks take: searches, and random numbers; how many passes the fade makes, none where there is no fade, and in how
-/// many of them each nurse may be searched once.
+/// What a fade and kicks take: searches and random numbers; how many passes the fade makes, 0 if there is no
+/// fade; and in how many of them each nurse may be searched once.
 #[derive(Clone, Copy)]
 pub(crate) struct Kicking {
     pub(crate) searches: Searches,
     pub(crate) random: Random,
     pub(crate) passes: u64,
-    pub(crate) turns: u64,
+    pub(crate) passes_per_search: u64,
 }
 
-/// What is drawn for a kick: whether its prices are those by worths, its weeks, how many of a hundred prices are raised, and by how
-/// many points at most.
+/// What is drawn for a kick: whether its prices go by dual prices, its weeks, how many of a hundred prices
+/// are raised, and by how many points at most.
 #[derive(Clone, Copy)]
 struct Draw {
-    by_worth: bool,
+    by_dual_price: bool,
     first: u16,
     last: u16,
     share: u32,
     most_points: u32,
 }
 
-/// Kicks a few nurses out of their rows and settles the roster again. Where it is then no dearer, it stays and is kept; else the roster
-/// that was kept comes back. Says whether it stayed.
-pub(crate) fn try_kick<T: RowTables>(
+/// Kicks a few nurses out of their rows and runs a descent. If the roster is then settled and no dearer, it
+/// stays and is kept; else the kept one comes back. Returns whether it stayed.
+pub(crate) fn try_kick<T: SearchesRows>(
     held: &mut Held,
     from: u16,
     kicking: &mut Kicking,
@@ -65,8 +66,9 @@ pub(crate) fn try_kick<T: RowTables>(
     stay_if_no_dearer(held, aim, &mut kicking.searches, space, meter)
 }
 
-/// Gives one to three nurses the best rows by the prices of a kick, and answers the nurse after the last of them.
-fn kick_nurses<T: RowTables>(
+/// Gives one to three nurses the best rows by the prices of a kick, and returns the nurse after the last of
+/// them.
+fn kick_nurses<T: SearchesRows>(
     held: &mut Held,
     from: u16,
     kicking: &mut Kicking,
@@ -88,10 +90,10 @@ fn kick_nurses<T: RowTables>(
     after
 }
 
-/// How many of four kicks price by worths, on average.
-const BY_WORTH: u32 = 2;
+/// How many of four kicks go by dual prices, on average.
+const BY_DUAL_PRICE: u32 = 2;
 
-/// What the next kick is: its weeks are one to four, or as many as may change where these are fewer.
+/// Draws the next kick. It has one to four weeks, or as many as may change if these are fewer.
 fn draw_kick(weeks: u16, from: u16, random: &mut Random) -> Draw
     ensures few { result.last ≤ result.first + 4 }
     ensures open { min from weeks ≤ result.first }
@@ -101,7 +103,7 @@ fn draw_kick(weeks: u16, from: u16, random: &mut Random) -> Draw
     let length = (1 + random.below(4)).min((weeks - frozen) as u32);
     let first = frozen as u32 + random.below((weeks - frozen) as u32 - length + 1);
     Draw {
-        by_worth: random.below(4) < BY_WORTH,
+        by_dual_price: random.below(4) < BY_DUAL_PRICE,
         first: first as u16,
         last: (first + length) as u16,
         share: 10 + random.below(61),
@@ -109,8 +111,8 @@ fn draw_kick(weeks: u16, from: u16, random: &mut Random) -> Draw
     }
 }
 
-/// Kicks one nurse, any of them, and answers the nurse after.
-fn kick_one<T: RowTables>(
+/// Kicks one nurse, who is drawn, and returns the nurse after her.
+fn kick_one<T: SearchesRows>(
     held: &mut Held,
     draw: Draw,
     from: u16,
@@ -128,14 +130,14 @@ fn kick_one<T: RowTables>(
     let nurse = kicking.random.below(held.case().nurses() as u32) as usize;
     raise(draw, &mut space.dearer, &mut kicking.random);
     let kick = Kick {
-        worths: &space.floor.worths,
-        by_worth: draw.by_worth,
+        dual_prices: &space.bounds.dual_prices,
+        by_dual_price: draw.by_dual_price,
         dearer: space.dearer.as_slice(),
         from,
         first: draw.first,
         last: draw.last,
     };
-    kick_nurse(held, nurse, &kick, &mut space.floor.rows.workspace, meter);
+    kick_nurse(held, nurse, &kick, &mut space.bounds.rows.workspace, meter);
     nurse + 1
 }
 
@@ -143,15 +145,15 @@ fn kick_one<T: RowTables>(
 fn raise(draw: Draw, dearer: &mut [u8], random: &mut Random)
     ensures { length dearer.new ≡ length dearer.old }
 {
-    for place in 0..dearer.len() {
+    for position in 0..dearer.len() {
         let raised = random.below(100) < draw.share;
         let points = 1 + random.below(draw.most_points.max(1)) % 255;
-        dearer[place] = if raised { points as u8 } else { 0 };
+        dearer[position] = if raised { points as u8 } else { 0 };
     }
 }
 
 /// Gives a nurse the best row by the prices of a kick.
-fn kick_nurse<T: RowTables>(
+fn kick_nurse<T: SearchesRows>(
     held: &mut Held,
     nurse: usize,
     kick: &Kick<'_>,
@@ -167,7 +169,7 @@ fn kick_nurse<T: RowTables>(
     ensures counted { meter.new ≤ meter.old + extension_count held.old.case nurse }
     ensures fits { fits_space held.old.case workspace.new ≡ true }
 {
-    // The roster keeps the hard rules: so the present row is offered, and there is a best one.
+    // The roster keeps the hard rules, so the present row is offered, and there is a best one.
     held.keeps_rules();
     offer_days(held, nurse, kick, workspace);
     workspace.search_offers(held.case(), nurse, meter);

@@ -1,12 +1,15 @@
-//! Rosters near the floor: all rows are faded, and then a few nurses at a time kicked out of theirs; after each the roster is settled again,
-//! and stays where it is no dearer.
+//! Improves a roster beyond what single rows can. A run first makes a fade, which is a Lagrangian heuristic,
+//! and then kicks, which are small random perturbations. A descent follows each of these, and the result
+//! stays only if it is no dearer.
 //!
-//! What a run keeps and tells is defined in `specs/Polished.antt`, what a settled roster is in `specs/Settled.antt`, what each fade and
-//! kick leaves in `specs/Tries.antt`, and what a kicked nurse is offered in `specs/Kicks.antt`. `polish` promises a roster that keeps the
-//! hard rules and the frozen days, is settled where it says so, and costs no more than the given one, with a log that is true. How good
-//! that roster is, no contract says.
+//! What a run keeps and logs is defined in `specs/Polished.antt`, what a settled roster is in
+//! `specs/Settled.antt`, what each fade and kick leaves in `specs/Tries.antt`, and what a kicked nurse is
+//! offered in `specs/Kicks.antt`. `polish` promises a roster that keeps the hard rules and the frozen days,
+//! is settled if it says so, and costs no more than the given one, with a log that is true. No contract says
+//! how good that roster is.
 #![tactic(auto)]
 
+mod descend;
 mod fade;
 mod kick;
 mod log;
@@ -16,12 +19,11 @@ mod random;
 mod room;
 mod run;
 mod searches;
-mod settle;
 mod space;
 mod stay;
 mod visit;
 
 pub use plan::find_roster;
-pub use room::{MOST_SEARCHES, searches_have_room};
+pub use room::{MOST_SEARCHES, searches_fit_meter};
 pub use run::{Course, Polished, polish, polish_found};
 pub use space::PolishSpace;

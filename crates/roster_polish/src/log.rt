@@ -7,8 +7,8 @@ ghost use Rattle.roster_rules.specs.Improver.{line};
 use roster_text::{Piece, Watch, WriteFault, send_pieces};
 use std::io::Write;
 
-/// The line of a kick that made the roster cheaper. It takes how many bytes of the log were sent before, and returns how many are sent
-/// then.
+/// Sends the line of a kick that made the roster cheaper. `sent` bytes of the log were sent before; it
+/// returns how many are sent then.
 pub(crate) fn log_kick<W: Write>(
     log: &mut Watch<W>,
     sent: usize,

@@ -3,27 +3,27 @@
 ghost use Rattle.std.specs.Prelude.{◌≡◌, ◌+◌, ◌*◌, ◌<◌, true};
 ghost use Rattle.roster_instance.specs.Meaning.{day_count, nurse_count};
 ghost use Rattle.roster_instance.specs.Rosters.{is_choice_of};
-ghost use Rattle.roster_places.specs.Tables.{worths_of};
-ghost use Rattle.roster_worths.specs.Worths.{price_by};
+ghost use Rattle.roster_slots.specs.Tables.{slot_prices};
+ghost use Rattle.roster_prices.specs.LowerBounds.{price_by};
 ghost use Rattle.roster_offers.specs.Workspaces.{fits_space};
-ghost use Rattle.roster_polish.specs.Kicks.{AreKickOffers, FitsKick, from_on, kick_offers, price_from, shift_place};
+ghost use Rattle.roster_polish.specs.Kicks.{AreKickOffers, FitsKick, from_on, kick_offers, price_from, shift_index};
 
 use arrayvec::ArrayVec;
 use roster_case::Held;
 use roster_instance::{Case, Choice};
 use roster_offers::{
-    MOST_CHOICES, MOST_OFFERS, Offer, RowTables, Workspace, cheapest_by_shift, request_cost,
+    MOST_CHOICES, MOST_OFFERS, Offer, SearchesRows, Workspace, cheapest_by_shift, request_cost,
 };
-use roster_places::{MOST_WORTH, Worths};
 use roster_row::choices;
+use roster_slots::{DualPrices, MOST_DUAL_PRICE};
 
-/// How a kick prices what is offered, and in which weeks it offers more than the present row.
+/// How a kick prices offers, and in which weeks it offers more than the present row.
 #[derive(Clone, Copy)]
 pub(crate) struct Kick<'a> {
-    pub(crate) worths: &'a Worths,
-    /// Whether the prices are those by worths, or the true ones.
-    pub(crate) by_worth: bool,
-    /// By how many points to be off on a day, and then each shift of it, is dearer: nine for each day.
+    pub(crate) dual_prices: &'a DualPrices,
+    /// Whether the prices go by dual prices, or are the true ones.
+    pub(crate) by_dual_price: bool,
+    /// By how many points choices are dearer: nine numbers for each day, for a day off and for each shift.
     pub(crate) dearer: &'a [u8],
     /// The weeks before this one are frozen.
     pub(crate) from: u16,
@@ -32,7 +32,7 @@ pub(crate) struct Kick<'a> {
     pub(crate) last: u16,
 }
 
-/// The week before which all is frozen, as it is for a day.
+/// The week before which all is frozen, as it is for a day: a day outside of the open weeks is frozen too.
 fn from_on(kick: &Kick<'_>, day: u16) -> u16
     ensures { result ≡ from_on kick.now day }
 {
@@ -44,7 +44,7 @@ fn from_on(kick: &Kick<'_>, day: u16) -> u16
     }
 }
 
-/// What an offer of a day costs in a kick.
+/// The price of an offer on a day in a kick.
 fn price(kick: &Kick<'_>, case: &Case, nurse: usize, day: u16, offer: Offer) -> u32
     requires kick { FitsKick case.now kick.now }
     requires nurse { nurse < nurse_count case.now }
@@ -52,39 +52,40 @@ fn price(kick: &Kick<'_>, case: &Case, nurse: usize, day: u16, offer: Offer) -> 
     requires choice { is_choice_of case.now offer.choice ≡ true }
     ensures { result ≡ price_from case.now nurse kick.now day offer.choice offer.price }
 {
-    let price = if kick.by_worth {
-        price_by_worth(kick, case, nurse, day, offer.choice)
+    let price = if kick.by_dual_price {
+        price_by_dual_price(kick, case, nurse, day, offer.choice)
     } else {
         offer.price
     };
-    let place = shift_place(case, offer.choice) as usize;
-    let more = kick.dearer[9 * day as usize + place];
+    let position = shift_index(case, offer.choice) as usize;
+    let more = kick.dearer[9 * day as usize + position];
     (price as u64 + more as u64).min(MOST_PRICE) as u32
 }
 
 /// The greatest price of an offer.
 const MOST_PRICE: u64 = 1_918_200;
 
-/// What the nurse earns less than the most on the day, and what the requests cost.
-fn price_by_worth(kick: &Kick<'_>, case: &Case, nurse: usize, day: u16, choice: Choice) -> u32
+/// The price of a choice by dual prices: the greatest dual price less what the nurse earns, plus what the
+/// requests cost.
+fn price_by_dual_price(kick: &Kick<'_>, case: &Case, nurse: usize, day: u16, choice: Choice) -> u32
     requires kick { FitsKick case.now kick.now }
     requires nurse { nurse < nurse_count case.now }
     requires day { day < day_count case.now }
     requires choice { is_choice_of case.now choice ≡ true }
-    ensures { result ≡ price_by case.now (worths_of kick.now.worths.now) nurse day choice }
+    ensures { result ≡ price_by case.now (slot_prices kick.now.dual_prices.now) nurse day choice }
 {
     case.keeps_limits();
-    let earned = match choice {
+    let choice_dual_price = match choice {
         Choice::Off => 0,
-        Choice::Work(shift, skill) => kick.worths.at(day, shift, skill),
+        Choice::Work(shift, skill) => kick.dual_prices.at(day, shift, skill),
     };
-    MOST_WORTH - earned + request_cost(case, nurse, day, choice.shift())
+    MOST_DUAL_PRICE - choice_dual_price + request_cost(case, nurse, day, choice.shift())
 }
 
-/// The place of a choice among the nine of a day: to be off, then the shifts.
-fn shift_place(case: &Case, choice: Choice) -> u8
+/// The index of a choice among the nine of a day: to be off, then the shifts.
+fn shift_index(case: &Case, choice: Choice) -> u8
     requires { is_choice_of case.now choice ≡ true }
-    ensures place { result ≡ shift_place choice }
+    ensures position { result ≡ shift_index choice }
     ensures within { result < 9 }
 {
     case.keeps_limits();
@@ -94,8 +95,8 @@ fn shift_place(case: &Case, choice: Choice) -> u8
     }
 }
 
-/// Puts the offers of each day, one for each shift, into a workspace in the place of others.
-pub(crate) fn offer_days<T: RowTables>(
+/// Replaces the offers in a workspace by those of each day, one for each shift.
+pub(crate) fn offer_days<T: SearchesRows>(
     held: &Held,
     nurse: usize,
     kick: &Kick<'_>,
@@ -130,8 +131,8 @@ fn offers_of_day(
     held.case().keeps_limits();
     let open = choices(held, nurse, day, from_on(kick, day));
     let mut offers = ArrayVec::<Offer, MOST_CHOICES>::new();
-    for place in 0..open.len() {
-        let offer = open[place];
+    for position in 0..open.len() {
+        let offer = open[position];
         let price = price(kick, held.case(), nurse, day, offer);
         offers.push(Offer {
             choice: offer.choice,

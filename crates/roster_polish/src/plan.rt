@@ -4,11 +4,11 @@ ghost use Rattle.std.specs.Prelude.{◌≡◌, ◌+◌, ◌-◌, ◌*◌, ◌^�
 ghost use Rattle.roster_bundle.specs.Limits.{greatest_u64};
 ghost use Rattle.roster_instance.specs.Rosters.{fits_case};
 ghost use Rattle.roster_rules.specs.HardRules.{keeps_hard};
-ghost use Rattle.roster_worths.specs.Worths.{HaveRows};
+ghost use Rattle.roster_prices.specs.LowerBounds.{HaveRows};
 ghost use Rattle.roster_laws.specs.FrozenDays.{FrozenDaysStay};
 ghost use Rattle.roster_polish.specs.Fades.{AreFaded, AreMade};
 ghost use Rattle.roster_costs.specs.Minimums.{missing};
-ghost use Rattle.roster_costs.specs.Unmendable.{unmendable};
+ghost use Rattle.roster_costs.specs.Irreparable.{irreparable};
 ghost use Rattle.roster_polish.specs.Plans.{IsNoFarther, IsPlanned, keeps_rows};
 ghost use Rattle.roster_polish.specs.Polished.{FitsPolish};
 ghost use Rattle.roster_polish.specs.Settled.{Spends, extensions_of};
@@ -22,47 +22,53 @@ use crate::searches::Searches;
 use crate::space::PolishSpace;
 use roster_costs::{first_absent_before, first_hard, first_succession_before, missing};
 use roster_instance::{Case, Roster};
-use roster_offers::RowTables;
-use roster_places::{MOST_WORTH, Pace};
+use roster_offers::SearchesRows;
+use roster_prices::{
+    Base, Fading, STEPS_PER_ROUND, WHOLE, has_uncovered_slot, improve_dual_prices, raise_uncovered,
+};
+use roster_slots::{MOST_DUAL_PRICE, StepSchedule};
 use roster_state::Meter;
-use roster_worths::{Base, Fading, MOVES, WHOLE, improve_worths, lacks_nurses, raise_missed};
 
-/// How many passes the first fade makes. Each later one makes twice as many as that before.
+/// How many passes the first fade makes. Each later one makes twice as many as the one before.
 const FIRST_PASSES: u64 = 120;
 
-/// In so many of them each nurse may be searched once: a fade that only has to keep the hard rules ends sooner.
-const TURNS: u64 = 4;
+/// In how many of its passes each nurse may be searched once. A fade that only has to keep the hard rules may
+/// end sooner than one of `polish`.
+const PASSES_PER_SEARCH: u64 = 4;
 
-/// How many passes mend the rows of a fade at most, and from which of them on a missing nurse outweighs all else.
-const MENDING_PASSES: u32 = 60;
+/// How many passes repair the rows of a fade at most, and from which of them on a missing nurse outweighs all
+/// else.
+const REPAIR_PASSES: u32 = 60;
 
 const OUTWEIGHING_FROM: u32 = 40;
 
-/// By how many points the worth of a place that misses nurses is raised before such a pass.
+/// By how many points the dual price of a slot below its minimum is raised before such a pass.
 const RAISE: u32 = 40;
 
-/// What places pay in it: half of their worths, and more where nurses are missing.
-const MENDING: Fading = Fading {
+/// What slots pay in such a pass: half of their dual prices, and more if nurses are missing.
+const REPAIR: Fading = Fading {
     share: WHOLE / 2,
     missing: 300,
 };
 
-/// What they pay in the last of these: more for a nurse who is missing than a row can cost more by another choice of one day.
+/// What they pay in the last of these passes: more for a missing nurse than another choice on one day can
+/// make a row dearer.
 const OUTWEIGHING: Fading = Fading {
     share: WHOLE / 8,
-    missing: MOST_WORTH,
+    missing: MOST_DUAL_PRICE,
 };
 
-/// How many rounds over all nurses the worths are improved before the first fade, at most.
+/// For how many rounds over all nurses the dual prices are improved before the first fade, at most.
 const MOST_ROUNDS: u32 = 30;
 
-/// Of the searches this part goes into these rounds, at most.
-const ROUNDS_PART: u32 = 4;
+/// These rounds take at most one of this many parts of the searches.
+const ROUNDS_DIVISOR: u32 = 4;
 
-/// Looks for a roster that keeps the hard rules: fades the rows, again and again, in twice as many passes, until they do, or no search
-/// is left. Of the given roster and of those with which its fades end, it then leaves the one in which the minimums miss the fewest
-/// nurses; the given one counts where it breaks minimums alone. Answers how many searches are left. It takes no memory.
-pub fn find_roster<T: RowTables>(
+/// Looks for a roster that keeps the hard rules: fades the rows, each time in twice as many passes, until
+/// they do or no search is left. Of the given roster and those with which the fades end, it then leaves the
+/// one that is short of the fewest nurses to the minimums; the given one counts only if it breaks minimums
+/// alone. Returns how many searches are left. It takes no memory.
+pub fn find_roster<T: SearchesRows>(
     case: &Case,
     roster: &mut Roster,
     course: &Course,
@@ -70,15 +76,16 @@ pub fn find_roster<T: RowTables>(
     meter: &mut Meter,
 ) -> u32
     requires roster { fits_case case.now roster.old ≡ true }
-    requires mendable { unmendable case.now course.now.from roster.old ≡ [] }
+    requires repairable { irreparable case.now course.now.from roster.old ≡ [] }
     requires fits { FitsPolish case.now space.old }
     requires room { meter.old + extensions_of case.now course.now.searches ≤ greatest_u64 }
     ensures roster { fits_case case.now roster.new ≡ true }
 
-    // The given one stays where it keeps the hard rules; else the one that is left is no farther, with its frozen days.
+    // The given roster stays if it keeps the hard rules. Else the one that is left is no farther, with its
+    // frozen days.
     ensures planned { IsPlanned case.now course.now.from roster.old roster.new }
 
-    // One that breaks a hard rule is left only where each search was made.
+    // A roster that breaks a hard rule is left only if each search was made.
     ensures given_up { keeps_hard case.now roster.new ≡ false → result ≡ 0 }
     ensures made { AreMade case.now meter.old course.now.searches meter.new result }
     ensures spends { Spends case.now meter.old course.now.searches meter.new result }
@@ -88,7 +95,7 @@ pub fn find_roster<T: RowTables>(
     if first_hard(case, roster).is_none() {
         return all;
     }
-    mendable_rows_are_had(case, roster, course.from);
+    repairable_rows_exist(case, roster, course.from);
     let base = Base {
         case,
         given: roster,
@@ -100,15 +107,15 @@ pub fn find_roster<T: RowTables>(
     kicking.searches.left as u32
 }
 
-/// A law: where nothing is unmendable, each nurse has a row that agrees with the frozen days.
-fn mendable_rows_are_had(case: &Case, roster: &Roster, from: u16)
+/// A law: if nothing is irreparable, each nurse has a row that agrees with the frozen days.
+fn repairable_rows_exist(case: &Case, roster: &Roster, from: u16)
     requires fits { fits_case case.now roster.now ≡ true }
-    requires mendable { unmendable case.now from roster.now ≡ [] }
+    requires repairable { irreparable case.now from roster.now ≡ [] }
     ensures { HaveRows case.now from roster.now }
 {}
 
-/// Improves the worths from which the fades begin, and keeps the given rows.
-fn begin_plan<T: RowTables>(
+/// Improves the dual prices from which the fades begin, and keeps the given rows.
+fn begin_plan<T: SearchesRows>(
     base: &Base<'_>,
     course: &Course,
     space: &mut PolishSpace<T>,
@@ -126,12 +133,12 @@ fn begin_plan<T: RowTables>(
 {
     base.case.keeps_limits();
     let nurses = base.case.nurses() as u32;
-    let rounds = rounds_within(course.searches, ROUNDS_PART, nurses).min(MOST_ROUNDS);
-    let pace = Pace {
+    let rounds = rounds_within(course.searches, ROUNDS_DIVISOR, nurses).min(MOST_ROUNDS);
+    let schedule = StepSchedule {
         rounds: rounds as u16,
-        moves: MOVES,
+        steps: STEPS_PER_ROUND,
     };
-    improve_worths(base, pace, &mut space.floor, meter);
+    improve_dual_prices(base, schedule, &mut space.bounds, meter);
     space.kept.put_rows(base.given);
     Kicking {
         searches: Searches {
@@ -139,12 +146,12 @@ fn begin_plan<T: RowTables>(
         },
         random: Random::of_seed(course.seed),
         passes: FIRST_PASSES,
-        turns: TURNS,
+        passes_per_search: PASSES_PER_SEARCH,
     }
 }
 
-/// Fades the given rows until they keep the hard rules, or no search is left, and keeps the nearest ones.
-fn fade_until_kept<T: RowTables>(
+/// Fades the given rows until they keep the hard rules or no search is left, and keeps the nearest ones.
+fn fade_until_kept<T: SearchesRows>(
     base: &Base<'_>,
     kicking: &mut Kicking,
     space: &mut PolishSpace<T>,
@@ -166,7 +173,7 @@ fn fade_until_kept<T: RowTables>(
 {
     let mut least = least_before(base);
     'fades: while kicking.searches.left > 0 {
-        if fade_and_mend(base, kicking, space, meter) {
+        if fade_and_repair(base, kicking, space, meter) {
             space.kept.put_rows(&space.faded);
             return;
         }
@@ -175,14 +182,15 @@ fn fade_until_kept<T: RowTables>(
     }
 }
 
-/// How many passes the fade after one of so many makes: twice as many.
+/// How many passes the fade after one with this many makes: twice as many.
 fn passes_after(passes: u64) -> u64
     ensures { result ≡ min (2 * passes) (2 ^ 64 - 1) }
 {
     passes.saturating_mul(2)
 }
 
-/// How many nurses a nearer roster than the given one misses fewer than: as many as that misses, where it breaks minimums alone.
+/// A roster is nearer than the given one if it is short of fewer nurses than this: those of which the given
+/// one is short if it breaks minimums alone, and else any number.
 fn least_before(base: &Base<'_>) -> u64
     ensures { keeps_rows base.now.case.now base.now.given.now ≡ true →
         result ≡ missing base.now.case.now base.now.given.now }
@@ -197,9 +205,9 @@ fn least_before(base: &Base<'_>) -> u64
     }
 }
 
-/// Fades the given rows, and mends them where they then break a minimum. Says whether they keep the hard rules. At least one search is
-/// made, and the frozen days are as they are given.
-fn fade_and_mend<T: RowTables>(
+/// Fades the given rows, and repairs them if they then break a minimum. Returns whether they keep the hard
+/// rules. At least one search is made, and the frozen days are as given.
+fn fade_and_repair<T: SearchesRows>(
     base: &Base<'_>,
     kicking: &mut Kicking,
     space: &mut PolishSpace<T>,
@@ -216,13 +224,13 @@ fn fade_and_mend<T: RowTables>(
     if fade_rows(base, kicking, space, meter) {
         return true;
     }
-    mend_rows(base, kicking, space, meter)
+    repair_rows(base, kicking, space, meter)
 }
 
-/// Gives the nurses new rows, pass by pass, while a place that misses nurses pays more each time, in the last passes more than for all
-/// else, until none does or the passes or the searches end. Says whether the rows keep the hard rules then. The frozen days are as they
-/// are given.
-fn mend_rows<T: RowTables>(
+/// Gives the nurses new rows, pass by pass, until no slot is below its minimum or the passes or the searches
+/// end. Slots below their minimums pay more each time, and in the last passes more than all else. Returns
+/// whether the rows then keep the hard rules. The frozen days are as given.
+fn repair_rows<T: SearchesRows>(
     base: &Base<'_>,
     kicking: &mut Kicking,
     space: &mut PolishSpace<T>,
@@ -235,13 +243,13 @@ fn mend_rows<T: RowTables>(
     ensures faded { AreFaded base.now kicking.old kicking.new space.old space.new meter.old
         meter.new }
 {
-    for pass in 0..MENDING_PASSES {
-        if !lacks_nurses(base.case, &space.floor) {
+    for pass in 0..REPAIR_PASSES {
+        if !has_uncovered_slot(base.case, &space.bounds) {
             break;
         }
-        raise_missed(base.case, RAISE, &mut space.floor);
+        raise_uncovered(base.case, RAISE, &mut space.bounds);
         let fading = if pass < OUTWEIGHING_FROM {
-            MENDING
+            REPAIR
         } else {
             OUTWEIGHING
         };
@@ -250,8 +258,8 @@ fn mend_rows<T: RowTables>(
     first_hard(base.case, &space.faded).is_none()
 }
 
-/// Keeps the faded rows where they miss fewer nurses than the least so far. Answers the least then.
-fn keep_if_nearer<T: RowTables>(case: &Case, least: u64, space: &mut PolishSpace<T>) -> u64
+/// Keeps the faded rows if they are short of fewer nurses than the least so far, and returns the new least.
+fn keep_if_nearer<T: SearchesRows>(case: &Case, least: u64, space: &mut PolishSpace<T>) -> u64
     requires fits { FitsPolish case.now space.old }
     ensures kept { space.new.kept ≡ (if nat_lt (missing case.now space.old.faded) least
         then space.old.faded else space.old.kept) }

@@ -9,7 +9,7 @@ pub(crate) struct Random {
 }
 
 impl Random {
-    /// The numbers of a seed. From the state 0 there would be no other, so it isn't used.
+    /// The generator of a seed. From the state 0 there would be no other state, so it isn't used.
     pub(crate) fn of_seed(seed: u64) -> Random {
         let state = seed.wrapping_mul(SPREAD) ^ FIRST;
         Random {
@@ -17,7 +17,7 @@ impl Random {
         }
     }
 
-    /// A number below another.
+    /// A number below `end`.
     pub(crate) fn below(&mut self, end: u32) -> u32
         requires { 0 < end }
         ensures { result < end }
@@ -34,5 +34,5 @@ impl Random {
 /// The factor of the generator.
 const SPREAD: u64 = 0x2545_F491_4F6C_DD1D;
 
-/// What the seed 0 begins with.
+/// The state with which the seed 0 begins.
 const FIRST: u64 = 0x9E37_79B9_7F4A_7C15;

@@ -8,11 +8,11 @@ ghost use Rattle.roster_polish.specs.Settled.{extensions_of};
 use roster_instance::Case;
 use roster_rounds::extensions_are_few;
 
-/// The most searches, beside those of the first settling, for which a new meter surely has room.
+/// The greatest number of searches, besides those of the first descent, that a new meter can surely count.
 pub const MOST_SEARCHES: u32 = 10_000_000;
 
-/// A law: a new meter has room for a run of so many searches, with those of the first settling.
-pub fn searches_have_room(case: &Case, searches: u32)
+/// A law: a new meter can count a run of this many searches, and those of the first descent.
+pub fn searches_fit_meter(case: &Case, searches: u32)
     requires { searches ≤ most_searches }
     ensures { extensions_of case.now (searches + first_searches case.now) ≤ greatest_u64 }
 {

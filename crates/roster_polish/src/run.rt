@@ -1,4 +1,4 @@
-//! A run of kicks.
+//! A run of a fade and kicks.
 
 ghost use Rattle.std.specs.Prelude.{◌≡◌, ◌+◌, ◌*◌, ◌/◌, ◌<◌, ◌≤◌, false, true, codes, if◌then◌else◌, IfErr, IfOk};
 ghost use Rattle.roster_bundle.specs.Limits.{greatest_u64};
@@ -6,27 +6,27 @@ ghost use Rattle.roster_instance.specs.Limits.{most_nurses};
 ghost use Rattle.roster_laws.specs.FrozenDays.{FrozenDaysStay};
 ghost use Rattle.roster_rules.specs.Penalties.{penalty};
 ghost use Rattle.roster_polish.specs.Fades.{TakesAllBut, spared};
-ghost use Rattle.roster_polish.specs.Polished.{FitsPolish, GivenLogStops, PolishLogStops, Polishes, PolishesGiven, first_searches, settling_searches};
+ghost use Rattle.roster_polish.specs.Polished.{FitsPolish, GivenLogStops, PolishLogStops, Polishes, PolishesGiven, first_searches, descent_searches};
 ghost use Rattle.roster_polish.specs.Settled.{extensions_of};
 
+use crate::descend::descend_first;
 use crate::fade::try_fade;
 use crate::kick::{Kicking, try_kick};
 use crate::log::log_kick;
 use crate::random::Random;
 use crate::searches::Searches;
-use crate::settle::settle_first;
 use crate::space::PolishSpace;
 use roster_case::Held;
 use roster_log::{LogFault, log_start, log_word};
-use roster_offers::RowTables;
-use roster_places::Pace;
+use roster_offers::SearchesRows;
+use roster_prices::{Base, STEPS_PER_ROUND, improve_dual_prices};
+use roster_slots::StepSchedule;
 use roster_state::Meter;
 use roster_text::Watch;
-use roster_worths::{Base, MOVES, improve_worths};
 use std::io::Write;
 
-/// How a run is made: how many searches it may take beside those of the first settling, what its random numbers begin with, the week
-/// before which all is frozen, and whether it makes kicks alone, and no fade.
+/// How a run is made: how many searches it may take besides those of the first descent, the seed of its
+/// random numbers, the week before which all is frozen, and whether it makes kicks alone, and no fade.
 #[derive(Clone, Copy, Debug, PartialEq, Eq)]
 pub struct Course {
     pub searches: u32,
@@ -35,22 +35,23 @@ pub struct Course {
     pub kicks_alone: bool,
 }
 
-/// How a run ended: whether it is sure that no nurse has a cheaper row, and the penalty at the end.
+/// How a run ended: whether it is certain that no nurse has a cheaper row, and the penalty at the end.
 #[derive(Clone, Copy, Debug, PartialEq, Eq)]
 pub struct Polished {
     pub settled: bool,
     pub total: u64,
 }
 
-/// Settles a roster, fades it and settles it again, and then kicks a few nurses at a time out of their rows and settles it again, as
-/// long as searches are left. Where the roster is then no dearer, it stays. A fade that stayed and each kick that left it cheaper have a
-/// line in the log, which goes out as it is made; the first line has the penalty of the given roster. It takes no memory.
+/// Runs a descent, then fades the roster, and then kicks a few nurses at a time out of their rows, as long as
+/// searches are left. A descent follows the fade and each kick, and the roster stays if it is then no dearer.
+/// A fade that stayed and each kick that left the roster cheaper have a line in the log, which goes out as it
+/// is made; the first line has the penalty of the given roster. It takes no memory.
 ///
 /// # Errors
 ///
-/// The log failed. The roster is then that of the first line that didn't wholly go out: the given one at the first line, and at the
-/// others the one that the line tells of.
-pub fn polish<W: Write, T: RowTables>(
+/// The log failed. The roster is then that of the first line that didn't wholly go out: the given one at the
+/// first line, and at the others the one that the line reports.
+pub fn polish<W: Write, T: SearchesRows>(
     held: &mut Held,
     course: &Course,
     space: &mut PolishSpace<T>,
@@ -71,19 +72,20 @@ pub fn polish<W: Write, T: RowTables>(
         held.old.roster }
     ensures frozen { FrozenDaysStay held.old.case course.now.from held.old.roster held.new.roster }
     ensures counted { meter.new ≤ meter.old + extensions_of held.old.case
-        (course.now.searches + settling_searches held.old.case course.now.from held.old.roster) }
+        (course.now.searches + descent_searches held.old.case course.now.from held.old.roster) }
     ensures fits { FitsPolish held.old.case space.new }
 {
     let start = held.total();
     polish_found(held, course, start, space, meter, log)
 }
 
-/// The same, where the first line of the log has another number: what is told of the roster from which the given one was found.
+/// The same with another number in the first line of the log: that of the roster from which the given one was
+/// found.
 ///
 /// # Errors
 ///
 /// As those of `polish`.
-pub fn polish_found<W: Write, T: RowTables>(
+pub fn polish_found<W: Write, T: SearchesRows>(
     held: &mut Held,
     course: &Course,
     start: u64,
@@ -104,12 +106,12 @@ pub fn polish_found<W: Write, T: RowTables>(
         held.old.roster }
     ensures frozen { FrozenDaysStay held.old.case course.now.from held.old.roster held.new.roster }
     ensures counted { meter.new ≤ meter.old + extensions_of held.old.case
-        (course.now.searches + settling_searches held.old.case course.now.from held.old.roster) }
+        (course.now.searches + descent_searches held.old.case course.now.from held.old.roster) }
     ensures fits { FitsPolish held.old.case space.new }
 {
     held.keeps_rules();
     let mut sent = log_start(log, 0, held.case(), start)?;
-    let mut settled = settle_first(held, course.from, space, meter);
+    let mut settled = descend_first(held, course.from, space, meter);
     let mut kicking = begin(held, course, space, meter);
     if try_fade(held, course.from, &mut kicking, space, meter) {
         settled = true;
@@ -144,8 +146,9 @@ fn end_word(settled: bool) -> &'static [u8]
     if settled { b"settled" } else { b"stopped" }
 }
 
-/// Improves the worths from which a fade begins and by which kicks price, with half of the searches at most, and keeps the roster.
-fn begin<T: RowTables>(
+/// Improves the dual prices from which a fade begins and by which kicks price, with at most half of the
+/// searches, and keeps the roster.
+fn begin<T: SearchesRows>(
     held: &Held,
     course: &Course,
     space: &mut PolishSpace<T>,
@@ -164,25 +167,30 @@ fn begin<T: RowTables>(
     let parts = if course.kicks_alone { 2 } else { 3 };
     let rounds = rounds_within(course.searches, parts, nurses);
     let base = Base::of(held, course.from);
-    let pace = Pace {
+    let schedule = StepSchedule {
         rounds: rounds as u16,
-        moves: if course.kicks_alone { 1 } else { MOVES },
+        steps: if course.kicks_alone {
+            1
+        } else {
+            STEPS_PER_ROUND
+        },
     };
-    improve_worths(&base, pace, &mut space.floor, meter);
+    improve_dual_prices(&base, schedule, &mut space.bounds, meter);
     space.keep(held);
     let left = course.searches - rounds * nurses;
     Kicking {
         searches: Searches { left: left as u64 },
         random: Random::of_seed(course.seed),
         passes: passes_within(course, left, nurses),
-        turns: TURNS,
+        passes_per_search: PASSES_PER_SEARCH,
     }
 }
 
-/// In so many passes of a fade each nurse may be searched once: mostly she can gain little.
-const TURNS: u64 = 16;
+/// In how many passes of a fade each nurse may be searched once: mostly she can gain little.
+const PASSES_PER_SEARCH: u64 = 16;
 
-/// How many rounds over all nurses the worths are improved: a hundred, or as many as take one of so many parts of the searches.
+/// For how many rounds over all nurses the dual prices are improved: a hundred, or as many as take one of
+/// `parts` equal parts of the searches.
 pub(crate) fn rounds_within(searches: u32, parts: u32, nurses: u32) -> u32
     requires parts { 0 < parts }
     requires few { parts ≤ 4 }
@@ -193,9 +201,10 @@ pub(crate) fn rounds_within(searches: u32, parts: u32, nurses: u32) -> u32
     (searches / (parts * nurses.max(1))).min(100)
 }
 
-/// How many passes over all nurses a fade makes: none for kicks alone, or else as many as take the searches that are left where one nurse
-/// of sixteen is searched in each, but for 3 of a hundred of all, or for ten searches of each nurse where that is more. Below 25
-/// searches of each nurse it may end below a minimum: then half of all searches are kept for kicks.
+/// How many passes over all nurses a fade makes: none for kicks alone, and else as many as take the searches
+/// that are left if one nurse of sixteen is searched in each. It leaves three in a hundred of all searches,
+/// or ten for each nurse if that is more. With fewer than 25 searches for each nurse it may end below a
+/// minimum: then half of all searches are kept for kicks.
 fn passes_within(course: &Course, left: u32, nurses: u32) -> u64
     requires some { 0 < nurses }
     requires few { nurses ≤ most_nurses }
@@ -213,10 +222,10 @@ fn passes_within(course: &Course, left: u32, nurses: u32) -> u64
     let spare = (course.searches / 100 * 3).max(10 * nurses);
     let each = left.saturating_sub(spare) / nurses;
     if each >= MANY_SEARCHES {
-        return TURNS * each as u64;
+        return PASSES_PER_SEARCH * each as u64;
     }
-    TURNS * (left.saturating_sub(course.searches / 2) / nurses) as u64
+    PASSES_PER_SEARCH * (left.saturating_sub(course.searches / 2) / nurses) as u64
 }
 
-/// So many searches of each nurse lead from the worths to the true prices without haste.
+/// This many searches for each nurse lead from dual prices to the true prices without haste.
 const MANY_SEARCHES: u32 = 25;

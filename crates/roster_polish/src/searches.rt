@@ -10,7 +10,7 @@ pub(crate) struct Searches {
 }
 
 impl Searches {
-    /// Takes one of those that are left where a search was made.
+    /// Takes one of those that are left if a search was made.
     pub(crate) fn take_if(&mut self, searched: bool)
         requires { searched ≡ true → 0 < self.old.left }
         ensures left { self.new.left ≡ self.old.left - one_if searched }

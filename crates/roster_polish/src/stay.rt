@@ -1,4 +1,4 @@
-//! Whether a roster that was changed stays.
+//! Whether a changed roster stays.
 
 ghost use Rattle.std.specs.Prelude.{◌≡◌, true};
 ghost use Rattle.roster_rules.specs.HardRules.{keeps_hard};
@@ -6,16 +6,16 @@ ghost use Rattle.roster_rules.specs.Penalties.{penalty};
 ghost use Rattle.roster_laws.specs.FrozenDays.{FrozenDaysStay};
 ghost use Rattle.roster_polish.specs.Tries.{CanSearch, StaysNoDearer};
 
+use crate::descend::{Aim, descend};
 use crate::searches::Searches;
-use crate::settle::{Aim, settle};
 use crate::space::PolishSpace;
 use roster_case::Held;
-use roster_offers::RowTables;
+use roster_offers::SearchesRows;
 use roster_state::Meter;
 
-/// Settles a roster that was changed, to the penalty of the one that is kept. Where it is then no dearer, it stays and is kept; else the
-/// one that was kept comes back. Says whether it stayed.
-pub(crate) fn stay_if_no_dearer<T: RowTables>(
+/// Runs a descent on a changed roster, to the penalty of the kept one. If the roster is then settled and no
+/// dearer, it stays and is kept; else the kept one comes back. Returns whether it stayed.
+pub(crate) fn stay_if_no_dearer<T: SearchesRows>(
     held: &mut Held,
     aim: Aim,
     searches: &mut Searches,
@@ -29,9 +29,9 @@ pub(crate) fn stay_if_no_dearer<T: RowTables>(
     ensures tried { StaysNoDearer held.old.case aim.from space.old.kept held.new searches.old
         searches.new space.new meter.old meter.new result }
 {
-    let PolishSpace { floor, last, .. } = space;
-    let workspace = &mut floor.rows.workspace;
-    let settled = settle(held, aim, searches, workspace, last, meter);
+    let PolishSpace { bounds, last, .. } = space;
+    let workspace = &mut bounds.rows.workspace;
+    let settled = descend(held, aim, searches, workspace, last, meter);
     if settled && held.total() <= aim.penalty {
         space.keep(held);
         true

@@ -5,11 +5,10 @@ use Rattle.std.specs.List.{range_with_len}
 use Rattle.roster_text.proofs.Texts.{flat_map-range_split}
 use Rattle.roster_instance.specs.Meaning.{Meaning, day_count, nurse_count, nurse_name}
 use Rattle.roster_rules.specs.Penalties.{total_cost}
-use Rattle.roster_rules.specs.Room.{penalty_room}
+use Rattle.roster_rules.specs.PenaltyBounds.{penalty_limit}
 use Rattle.roster_instance.specs.Sizes.{choice_count, state_count}
 use Rattle.roster_rules.specs.declared.penalties.Costs.{Costs}
 use Rattle.roster_reports.specs.Lines.{Text, costs_text, missing_line, nurse_day_line, search_line, sizes_line, sizes_text}
-use Rattle.roster_reports.specs.declared.names.BreachNames.{BreachNames}
 
 -- what is expected on a line
 pub expected-line : (line what : Text) → codes "line " ++ (line ++ (codes ": expected " ++ (what ++ codes "\n"))) ≡ codes "line " ++ line ++ codes ": expected " ++ what ++ codes "\n"
@@ -24,13 +23,13 @@ missing-line a week b day c shift d skill e have f need end = simp append_assoc
 pub nurse_day-line : (rule a week b day c nurse end : Text) → rule ++ (a ++ (week ++ (b ++ (day ++ (c ++ (nurse ++ end)))))) ≡ rule ++ a ++ week ++ b ++ day ++ c ++ nurse ++ end
 nurse_day-line rule a week b day c nurse end = simp append_assoc
 
--- these lines after other words
-pub missing-after : (before : Text) (week : ℕ) (day : Text) (names : BreachNames) (have need : ℕ)
-    → before ++ (codes "H2 week " ++ (decimal week ++ (codes " " ++ (day ++ (codes " " ++ (names.shift.now ++ (codes " " ++ (names.skill.now ++ (codes ": " ++ (decimal have ++ (codes " of " ++ (decimal need ++ codes "\n"))))))))))))
-    ≡ before ++ missing_line week day names have need
-missing-after before week day names have need =
+-- these lines after other text
+pub missing-after : (before : Text) (week : ℕ) (day shift skill : Text) (have need : ℕ)
+    → before ++ (codes "H2 week " ++ (decimal week ++ (codes " " ++ (day ++ (codes " " ++ (shift ++ (codes " " ++ (skill ++ (codes ": " ++ (decimal have ++ (codes " of " ++ (decimal need ++ codes "\n"))))))))))))
+    ≡ before ++ missing_line week day shift skill have need
+missing-after before week day shift skill have need =
     ap (λ text. before ++ text)
-    (missing-line (codes "H2 week ") (decimal week) (codes " ") day (codes " ") names.shift.now (codes " ") names.skill.now (codes ": ") (decimal have) (codes " of ") (decimal need) (codes "\n"))
+    (missing-line (codes "H2 week ") (decimal week) (codes " ") day (codes " ") shift (codes " ") skill (codes ": ") (decimal have) (codes " of ") (decimal need) (codes "\n"))
 
 pub nurse_day-after : (before rule : Text) (week : ℕ) (day nurse : Text)
     → before ++ (rule ++ (codes " week " ++ (decimal week ++ (codes " " ++ (day ++ (codes " " ++ (nurse ++ codes "\n"))))))) ≡ before ++ nurse_day_line rule week day nurse
@@ -56,8 +55,8 @@ cost_pieces k total =
     ++ (codes "\nS6 " ++ (decimal k.s6 ++ (codes "\nS7 " ++ (decimal k.s7 ++ (codes "\nS8 " ++ (decimal k.s8
     ++ (codes "\ntotal " ++ (decimal total ++ codes "\n")))))))))))))))))
 
--- they are the report, where the total is a small one
-pub cost_pieces-are : (k : Costs) (total : ℕ) → total ≡ min (total_cost k) 18446744073709551615 → total_cost k < penalty_room → cost_pieces k total ≡ costs_text k
+-- the pieces are the report, if the total is small enough
+pub cost_pieces-are : (k : Costs) (total : ℕ) → total ≡ min (total_cost k) 18446744073709551615 → total_cost k < penalty_limit → cost_pieces k total ≡ costs_text k
 unfolding costs_text
 cost_pieces-are k total is within =
     let sum : total ≡ total_cost k = is ∙ min-eq_left (omega (arith, within)) in
@@ -75,14 +74,14 @@ search_pieces name states days choices =
 search_pieces-are : (name : Text) (states days choices : ℕ) → search_pieces name states days choices ≡ search_line name states days choices
 search_pieces-are name states days choices = simp append_assoc
 
--- those of a nurse are the nurse's line
+-- the pieces of a nurse are the nurse's line
 pub sizes_pieces-are : (c : Meaning) (n : ℕ) (name : Text) (states days choices : ℕ) → name ≡ nurse_name c n → states ≡ state_count c n → days ≡ day_count c → choices ≡ choice_count c n
     → search_pieces name states days choices ≡ sizes_line c n
 sizes_pieces-are c n name states days choices name_is states_are days_are choices_are =
     search_pieces-are name states days choices ∙ ap (λ x. search_line x states days choices) name_is ∙ ap (λ k. search_line (nurse_name c n) k days choices) states_are
     ∙ ap₂ (search_line (nurse_name c n) (state_count c n)) days_are choices_are
 
--- those of the nurses up to one, the next line, and those after it
+-- the lines of the nurses up to one, the next line, and those after it
 pub sizes_text-split : (c : Meaning) (i n : ℕ) → i < n → n ≡ nurse_count c
     → sizes_text c ≡ (flat_map (sizes_line c) (range_with_len 0 i) ++ sizes_line c i) ++ flat_map (sizes_line c) (range_with_len (i + 1) (n - (i + 1)))
 unfolding sizes_text

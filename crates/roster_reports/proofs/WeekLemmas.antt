@@ -26,7 +26,7 @@ join-push c (x ∷ z ∷ xs) y =
     ∙ sym (append_assoc x (c ∷ join_with_byte c (z ∷ xs)) (c ∷ y))
     ∙ sym (ap (λ b. join_with_byte c (x ∷ z ∷ xs) ++ (cond b (c ∷ []) [] ++ y)) some)
 
--- what stands before in the whole
+-- what comes before in the whole
 join-front : (c : ℕ) (xs ys : List Text) → (zs : Text) × (join_with_byte c (xs ++ ys) ≡ join_with_byte c xs ++ zs)
 join-front c [] ys = (join_with_byte c ys, refl)
 join-front c (x ∷ []) [] = ([], sym (append-nil x))
@@ -41,7 +41,7 @@ module _ (c : Meaning) (r : Rows) where
   abbrev text : ℕ → Text
   text i = canonical (shown_week c r i)
 
-  -- the text of the first i weeks, and week i after an empty line where it is not the first
+  -- the text of the first i weeks, and week i, after an empty line if it is not the first
   abbrev pub front_text : ℕ → Text
   front_text i = join_with_byte 10 (map text (range_with_len 0 i))
 
@@ -72,7 +72,7 @@ module _ (c : Meaning) (r : Rows) where
             ∙ ap (λ xs. xs ++ front.0) (front_text-more i),
       )
 
--- ---- one week on its way
+-- ---- one week that isn't whole yet
 
 module _ {W : Type 0} (contents : W → Option (List ℕ)) (old mid new : Watched W) (front text : Text) (before : Writes contents old mid front) where
   pub OnErr-after : (r : Result (Unit {0}) WriteFault) (shown : Text) → shown ≡ text → IfErr r (StopsIn contents mid new shown) → OnErr r (Stops contents old new (front ++ text))

@@ -7,7 +7,7 @@ ghost use Rattle.roster_reports.specs.Lines.{bound_text};
 use roster_text::{Piece, Watch, WriteFault, write_pieces};
 use std::io::Write;
 
-/// Writes what a roster costs, and what no roster costs less than.
+/// Writes what a roster costs, and the lower bound.
 pub fn write_bound<W: Write>(
     output: &mut Watch<W>,
     total: u64,

@@ -3,7 +3,7 @@
 ghost use Rattle.std.specs.Prelude.{◌<◌, OnOk, IfErr};
 ghost use Rattle.roster_text.specs.Io.{StopsIn, Writes};
 ghost use Rattle.roster_rules.specs.Penalties.{total_cost};
-ghost use Rattle.roster_rules.specs.Room.{penalty_room};
+ghost use Rattle.roster_rules.specs.PenaltyBounds.{penalty_limit};
 ghost use Rattle.roster_reports.specs.Lines.{costs_text};
 
 use roster_rules::Costs;
@@ -12,7 +12,7 @@ use std::io::Write;
 
 /// Writes a line for each soft rule, and one for the total.
 pub fn write_costs<W: Write>(output: &mut Watch<W>, costs: Costs) -> Result<(), WriteFault>
-    requires { total_cost costs < penalty_room }
+    requires { total_cost costs < penalty_limit }
     ensures ok { OnOk result (Writes W.contents output.old output.new (costs_text costs)) }
     ensures err { IfErr result (StopsIn W.contents output.old output.new (costs_text costs)) }
 {

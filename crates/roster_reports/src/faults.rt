@@ -4,13 +4,13 @@ ghost use Rattle.std.specs.Prelude.{OnOk, IfErr, ◌++◌, codes, decimal};
 ghost use Rattle.roster_text.specs.Io.{StopsIn, Writes};
 ghost use Rattle.roster_reports.specs.Lines.{case_line, hard_line, memory_line, missing_line, nurse_day_line, text_line};
 
-use crate::names::BreachNames;
-use roster_instance::CaseFault;
+use crate::names::{nurse_name, shift_name, skill_name};
+use roster_instance::{Case, CaseFault};
 use roster_rules::HardFault;
 use roster_text::{MAX_INPUT, Piece, TextFault, Watch, WriteFault, weekday_text, write_pieces};
 use std::io::Write;
 
-/// Writes the line of want of memory.
+/// Writes the line for want of memory.
 pub fn write_no_memory<Log: Write>(log: &mut Watch<Log>) -> Result<(), WriteFault>
     ensures ok { OnOk result (Writes Log.contents log.old log.new memory_line) }
     ensures err { IfErr result (StopsIn Log.contents log.old log.new memory_line) }
@@ -18,7 +18,7 @@ pub fn write_no_memory<Log: Write>(log: &mut Watch<Log>) -> Result<(), WriteFaul
     write_pieces(log, &[Piece::Bytes(b"no memory\n")])
 }
 
-/// Writes the line of a fault of the text.
+/// Writes the line for a fault of the text.
 pub fn write_text_line<Log: Write>(fault: TextFault, log: &mut Watch<Log>) -> Result<(), WriteFault>
     ensures ok { OnOk result (Writes Log.contents log.old log.new (text_line fault)) }
     ensures err { IfErr result (StopsIn Log.contents log.old log.new (text_line fault)) }
@@ -49,7 +49,7 @@ pub fn write_text_line<Log: Write>(fault: TextFault, log: &mut Watch<Log>) -> Re
     }
 }
 
-/// Writes the line of a fault of the case or the solutions, with the name of the nurse of which it speaks.
+/// Writes the line for a fault of the case or the solutions, with the name of the nurse that it is about.
 pub fn write_case_line<Log: Write>(
     fault: CaseFault,
     nurse: &[u8],
@@ -82,73 +82,77 @@ pub fn write_case_line<Log: Write>(
     }
 }
 
-/// Writes the line of a breach of the hard rules, with the names of which it speaks, after these words.
-pub fn write_hard_line<'a, Log: Write>(
-    before: &'a [u8],
+/// Writes the line for a breach of the hard rules after these words, with the names that the case has for its
+/// numbers.
+pub fn write_hard_line<Log: Write>(
+    before: &[u8],
     fault: HardFault,
-    names: BreachNames<'a>,
+    case: &Case,
     log: &mut Watch<Log>,
 ) -> Result<(), WriteFault>
     ensures ok { OnOk result (Writes Log.contents log.old log.new
-        (before.now ++ hard_line fault names.entry)) }
+        (before.now ++ hard_line case.now fault)) }
     ensures err { IfErr result (StopsIn Log.contents log.old log.new
-        (before.now ++ hard_line fault names.entry)) }
+        (before.now ++ hard_line case.now fault)) }
 {
     match fault {
         HardFault::H2 {
             day,
+            shift,
+            skill,
             have,
             need,
-            ..
         } => write_missing(
             before,
             Day(day / 7, &weekday_text(day % 7)),
-            names,
+            shift_name(case, shift),
+            skill_name(case, skill),
             have,
             need,
             log,
         ),
-        HardFault::H3 { day, .. } => write_nurse_day(
+        HardFault::H3 { nurse, day } => write_nurse_day(
             before,
             b"H3",
             Day(day / 7, &weekday_text(day % 7)),
-            names.nurse,
+            nurse_name(case, nurse),
             log,
         ),
-        HardFault::H4 { day, .. } => write_nurse_day(
+        HardFault::H4 { nurse, day } => write_nurse_day(
             before,
             b"H4",
             Day(day / 7, &weekday_text(day % 7)),
-            names.nurse,
+            nurse_name(case, nurse),
             log,
         ),
-        HardFault::Absent { day, .. } => write_nurse_day(
+        HardFault::Absent { nurse, day } => write_nurse_day(
             before,
             b"absent",
             Day(day / 7, &weekday_text(day % 7)),
-            names.nurse,
+            nurse_name(case, nurse),
             log,
         ),
     }
 }
 
-/// A day as lines tell it: its week and its weekday.
+/// A day as the lines print it: its week and its weekday.
 #[derive(Clone, Copy)]
 struct Day<'a>(u16, &'a [u8]);
 
-/// Writes that nurses are missing to a minimum, after these words.
+/// Writes that a slot is short of its minimum, after these words.
 fn write_missing<'a, Log: Write>(
     before: &'a [u8],
     day: Day<'a>,
-    names: BreachNames<'a>,
+    shift: &'a [u8],
+    skill: &'a [u8],
     have: u16,
     need: u16,
     log: &mut Watch<Log>,
 ) -> Result<(), WriteFault>
     ensures ok { OnOk result (Writes Log.contents log.old log.new (before.now
-        ++ missing_line day.entry.0 day.entry.1.now names.entry have need)) }
+        ++ missing_line day.entry.0 day.entry.1.now shift.now skill.now have need)) }
     ensures err { IfErr result (StopsIn Log.contents log.old log.new (before.now
-        ++ missing_line day.entry.0 day.entry.1.now names.entry have need)) }
+        ++ missing_line day.entry.0 day.entry.1.now shift.now skill.now have need)) }
 {
     write_pieces(
         log,
@@ -159,9 +163,9 @@ fn write_missing<'a, Log: Write>(
             Piece::Bytes(b" "),
             Piece::Bytes(day.1),
             Piece::Bytes(b" "),
-            Piece::Bytes(names.shift),
+            Piece::Bytes(shift),
             Piece::Bytes(b" "),
-            Piece::Bytes(names.skill),
+            Piece::Bytes(skill),
             Piece::Bytes(b": "),
             Piece::Number(have as u64),
             Piece::Bytes(b" of "),

@@ -1,53 +1,26 @@
-//! The names that fault lines print, from the texts of the scenario.
+//! The names that fault lines print: those of a case, and, before there is a case, those of the texts.
 
 ghost use Rattle.std.specs.Prelude.{◌≡◌, [], slice_index_or};
-ghost use Rattle.roster_instance.specs.Names.{nurse_names, shift_names, skill_names};
-ghost use Rattle.roster_reports.specs.Lines.{AreNamesOf, nurse_of};
+ghost use Rattle.roster_instance.specs.Meaning.{nurse_name};
+ghost use Rattle.roster_instance.specs.Names.{nurse_names};
+ghost use Rattle.roster_reports.specs.Lines.{nurse_of, shift_name, skill_name};
 
 use roster_bundle::Bundle;
-use roster_instance::{CaseFault, Shift, Skill};
-use roster_rules::HardFault;
+use roster_instance::{Case, CaseFault, Shift, Skill};
 
-/// The names of which a breach of the hard rules speaks: a shift and a skill, or a nurse. The others are empty.
-#[derive(Clone, Copy)]
-pub struct BreachNames<'a> {
-    pub nurse: &'a [u8],
-    pub shift: &'a [u8],
-    pub skill: &'a [u8],
-}
-
-/// The name of the nurse of which a fault speaks, empty where it speaks of none.
+/// The name of the nurse that a fault is about, empty if it is about none.
 pub fn nurse_of<'a>(source: &'a [u8], bundle: &Bundle, fault: CaseFault) -> &'a [u8]
     ensures { result.now ≡ nurse_of source.now bundle.now fault }
 {
     match fault {
         CaseFault::TooManyStates { name, .. } => name.text(source),
-        CaseFault::H1 { nurse, .. } => nurse_name(source, bundle, nurse),
+        CaseFault::H1 { nurse, .. } => listed_nurse(source, bundle, nurse),
         _ => &[],
     }
 }
 
-/// The names of which a breach of the hard rules speaks.
-pub fn names_of<'a>(source: &'a [u8], bundle: &Bundle, fault: HardFault) -> BreachNames<'a>
-    ensures { AreNamesOf source.now bundle.now fault result }
-{
-    match fault {
-        HardFault::H2 { shift, skill, .. } => BreachNames {
-            nurse: &[],
-            shift: shift_name(source, bundle, shift),
-            skill: skill_name(source, bundle, skill),
-        },
-        HardFault::H3 { nurse, .. }
-        | HardFault::H4 { nurse, .. }
-        | HardFault::Absent { nurse, .. } => BreachNames {
-            nurse: nurse_name(source, bundle, nurse),
-            shift: &[],
-            skill: &[],
-        },
-    }
-}
-
-fn nurse_name<'a>(source: &'a [u8], bundle: &Bundle, nurse: usize) -> &'a [u8]
+/// The name that the scenario's text has for a nurse, empty for a number that it doesn't have.
+fn listed_nurse<'a>(source: &'a [u8], bundle: &Bundle, nurse: usize) -> &'a [u8]
     ensures { result.now ≡ slice_index_or (nurse_names source.now bundle.now) nurse [] }
 {
     match bundle.scenario.nurses.items.as_slice().get(nurse) {
@@ -56,32 +29,35 @@ fn nurse_name<'a>(source: &'a [u8], bundle: &Bundle, nurse: usize) -> &'a [u8]
     }
 }
 
-fn shift_name<'a>(source: &'a [u8], bundle: &Bundle, shift: Shift) -> &'a [u8]
-    ensures { result.now ≡ slice_index_or (shift_names source.now bundle.now) shift.0 [] }
+/// The name of a nurse, empty for a number that the case doesn't have.
+pub(crate) fn nurse_name(case: &Case, nurse: usize) -> &[u8]
+    ensures { result.now ≡ nurse_name case.now nurse }
 {
-    match bundle
-        .scenario
-        .shifts
-        .items
-        .as_slice()
-        .get(shift.0 as usize)
-    {
-        Some(line) => line.name.text(source),
-        None => &[],
+    if nurse < case.nurses() {
+        case.nurse_name(nurse)
+    } else {
+        &[]
     }
 }
 
-fn skill_name<'a>(source: &'a [u8], bundle: &Bundle, skill: Skill) -> &'a [u8]
-    ensures { result.now ≡ slice_index_or (skill_names source.now bundle.now) skill.0 [] }
+/// The name of a shift, empty for a number that the case doesn't have.
+pub(crate) fn shift_name(case: &Case, shift: Shift) -> &[u8]
+    ensures { result.now ≡ shift_name case.now shift.0 }
 {
-    match bundle
-        .scenario
-        .skills
-        .items
-        .as_slice()
-        .get(skill.0 as usize)
-    {
-        Some(name) => name.text(source),
-        None => &[],
+    if shift.0 < case.shifts() {
+        case.shift_name(shift)
+    } else {
+        &[]
+    }
+}
+
+/// The name of a skill, empty for a number that the case doesn't have.
+pub(crate) fn skill_name(case: &Case, skill: Skill) -> &[u8]
+    ensures { result.now ≡ skill_name case.now skill.0 }
+{
+    if skill.0 < case.skills() {
+        case.skill_name(skill)
+    } else {
+        &[]
     }
 }

@@ -21,7 +21,7 @@ pub fn write_sizes<W: Write>(output: &mut Watch<W>, case: &Case) -> Result<(), W
     Ok(())
 }
 
-/// Writes a nurse's name, and how many states, labels, pointers and steps the search takes.
+/// Writes a nurse's name, and how many states, labels, pointers and extensions the search takes.
 fn write_sizes_of<W: Write>(
     output: &mut Watch<W>,
     case: &Case,

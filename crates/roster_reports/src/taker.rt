@@ -7,7 +7,8 @@ ghost use Rattle.roster_reports.specs.Lines.{taker_line};
 use roster_text::{Piece, Watch, WriteFault, write_pieces};
 use std::io::Write;
 
-/// Writes a nurse's name, the penalty, the number of changed days, and how many nurses are still missed, where that is told.
+/// Writes a nurse's name, the penalty, the number of changed days, and, if it is given, by how many nurses
+/// the roster is still short.
 pub fn write_taker<W: Write>(
     output: &mut Watch<W>,
     name: &[u8],

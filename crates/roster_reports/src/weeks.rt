@@ -12,7 +12,8 @@ use roster_instance::{Case, Roster};
 use roster_text::{Watch, WriteFault, write_bytes, write_solution};
 use std::io::Write;
 
-/// Writes all weeks, with an empty line between two: what `show`, `best` and `improve` write. The output isn't flushed.
+/// Writes all weeks, with an empty line between two, as `show`, `best` and `improve` do. It doesn't flush the
+/// output.
 pub fn write_weeks<W: Write>(
     output: &mut Watch<W>,
     case: &Case,
@@ -30,7 +31,7 @@ pub fn write_weeks<W: Write>(
     Ok(())
 }
 
-/// Writes a week, after an empty line where it is not the first.
+/// Writes a week, after an empty line if it is not the first.
 fn write_week<W: Write>(
     output: &mut Watch<W>,
     case: &Case,

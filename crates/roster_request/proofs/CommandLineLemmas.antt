@@ -17,7 +17,7 @@ use Rattle.clap.specs.declared.builder.command.Command.{Command}
 use Rattle.clap.specs.declared.error.kind.ErrorKind.{ErrorKind}
 use Rattle.clap.specs.declared.error.kind.ErrorKind.TheVariants as kind
 use Rattle.clap.proofs.WalkLemmas.{walk_stopped}
-use Rattle.roster_request.specs.CommandLine.{IsNameOf, IsRefused, Refuses, TellsKind, commands, is_help, program}
+use Rattle.roster_request.specs.CommandLine.{IsNameOf, IsRefused, Refuses, HasKindOf, commands, is_help, program}
 use Rattle.roster_request.specs.declared.request.CliFault.{CliFault}
 use Rattle.roster_request.specs.declared.request.CliFault.TheVariants as fault
 
@@ -30,20 +30,20 @@ no_globals true true true d e = absurd (true≢false (sym e))
 no_globals true false globals d e = absurd (true≢false (sym e))
 no_globals false b globals d e = absurd (true≢false (sym e))
 
--- a command that was made is this one
+-- a command that was made has this definition
 abbrev pub IsMade : App → Result Command AllocError → Type 0
 IsMade a made = IfOk made (λ c. app_of c ≡ a)
 
--- a command that was made comes of another by this step
+-- a command that was made comes from another by this step
 abbrev pub MadeBy : (App → App) → Result Command AllocError → Result Command AllocError → Type 0
 MadeBy step before after = IfOk after (λ c. IsOkAnd before (λ b. app_of c ≡ step (app_of b)))
 
--- a program that was made has one more command, if that is plain
+-- a program that was made has one more command, if that command is plain
 abbrev pub Adds : Result Command AllocError → Result Command AllocError → Result Command AllocError → Type 0
 Adds before added after =
     IfOk after (λ c. IsOkAnd before (λ p. IsOkAnd added (λ s. (app_of s).top.is_plain ≡ true → app_of c ≡ with_subcommand (app_of p) (app_of s).top)))
 
--- a step from a known command gives a known one
+-- a step from a command with a known definition gives one with a known definition
 pub made_by : (step : App → App) (a : App) (before after : Result Command AllocError) → IsMade a before → MadeBy step before after → IsMade (step a) after
 made_by step a before (Err e) same by = tt
 made_by step a (Ok b) (Ok c) same by = by ∙ ap step same
@@ -61,7 +61,7 @@ made_by_both f g (Ok a) (Ok b) (Ok c) by_f by_g = by_g ∙ ap g by_f
 made_by_both f g (Err e) (Ok b) (Ok c) by_f by_g = absurd by_f
 made_by_both f g first (Err e) (Ok c) by_f by_g = absurd by_g
 
--- a known plain command is added, as a step
+-- a plain command with a known definition is added, as one step
 pub adds_known : (a : App) (before added after : Result Command AllocError) → a.top.is_plain ≡ true → IsMade a added → Adds before added after
     → MadeBy (λ p. with_subcommand p a.top) before after
 adds_known a before added (Err e) is_plain same adds = tt
@@ -83,13 +83,13 @@ ends_empty first second third fourth last e =
     let t = both_empty third _ s.1 in
     (f.0, (both_empty fourth last t.1).1)
 
--- where a command is wanted and none was met, that is a fault
+-- if a command is required and none was met, that is a fault
 wanted : (has wants_help wants_argument : Bool) → check_kinds wants_help (not has && true) wants_argument ≡ [] → has ≡ true
 wanted true wants_help wants_argument e = refl
 wanted false true wants_argument e = absurd (cc)
 wanted false false wants_argument e = absurd (cc)
 
--- ---- the walk stops at no `help`
+-- ---- the walk doesn't stop at `help`
 
 abbrev is_stop : Step → Bool
 is_stop (subcommand name) = true
@@ -132,11 +132,11 @@ module _ (c : List Rule) (word : Text) (w : Walk) (open_yet : w.stopped ≡ None
   step_open (subcommand name) e = absurd (true≢false e)
   step_open value e = positional_open (arg_by_index c w.position)
 
--- the walk from here has no fault, and stops at no `help`
+-- the walk from here has no fault, and doesn't stop at `help`
 abbrev pub NoHelp : Shape → Names → Walk → List Text → Type 0
 NoHelp s names w words = walk_fault s names w words ≡ [] → (p : Text × List Text) → (fold (walked s.rules names) w words).stopped ≡ Some p → bytes_eq p.0 (codes "help") ≡ false
 
--- a fault at each call for help
+-- each call for help is a fault
 not_help : (called : Bool) → cond (called && true) (kind.DisplayHelp ∷ kind.InvalidSubcommand ∷ []) [] ≡ [] → called ≡ false
 not_help true e = absurd (cc)
 not_help false e = refl
@@ -193,7 +193,7 @@ met_first : (s : Shape) (subs : List Shape) (rest : List Text) (others : Option 
 met_first s subs rest others true later e = inl refl
 met_first s subs rest others false later e = IsSomeAnd-weaker (with_rows rest others) (λ met. IsNameOf subs met.0) (λ met. IsNameOf (s ∷ subs) met.0) (λ met h. inr h) (later e)
 
--- where a command was met, and not the last, it is one of those before
+-- if a command was met, and it is not the last, it is one of those before
 met_before : (subs : List Shape) (last : Shape) (word : Text) (rest : List Text) → answers_to word (label_of last) ≡ false
     → is_some (with_rows rest (named word (subs ++ last ∷ []))) ≡ true → IsSomeAnd (with_rows rest (named word (subs ++ last ∷ []))) (λ met. IsNameOf subs met.0)
 met_before [] last word rest other e = met_none last rest (answers_to word (label_of last)) other e
@@ -212,7 +212,7 @@ is_false false h = refl
 abbrev all_subs : List Shape
 all_subs = (built program).subs
 
--- where a command was met that is not `help`, it is one of the program's
+-- if a command was met that is not `help`, it is one of the program's
 met_command : (stop : Option (Text × List Text)) → ((p : Text × List Text) → stop ≡ Some p → bytes_eq p.0 (codes "help") ≡ false)
     → is_some (entered (built program) stop) ≡ true → IsSomeAnd (entered (built program) stop) (λ met. IsNameOf commands met.0)
 met_command None other e = absurd (true≢false (sym e))
@@ -242,7 +242,7 @@ pub or_true : (b : Bool) → (b || true) ≡ true
 or_true true = refl
 or_true false = refl
 
--- a test that holds of one of the kinds
+-- a test that holds for one of the kinds
 among : (p : ErrorKind → Bool) (k : ErrorKind) (kinds : Kinds) → IsAmong k kinds → p k ≡ true → list_any p kinds ≡ true
 among p k [] h e = elim h [ ]
 among p k (x ∷ xs) (inl same) e = ap (λ b. b || list_any p xs) (ap p (sym same) ∙ e)
@@ -254,9 +254,9 @@ refused_by p words k other e passes (inl same) = absurd (other same)
 refused_by p words k other e passes (inr one) =
     record { untaken = is_false (takes program words) (λ taken. other (passes taken)); kind = among p k (fault_of program words) one e }
 
--- an error of clap's is told as what it is
-pub refuses : (words : List Text) (k : ErrorKind) (f : CliFault) → TellsKind k f → (takes program words ≡ true → k ≡ kind.OutOfMemory)
+-- an error of clap's is reported as what it is
+pub refuses : (words : List Text) (k : ErrorKind) (f : CliFault) → HasKindOf k f → (takes program words ≡ true → k ≡ kind.OutOfMemory)
     → (k ≡ kind.OutOfMemory) ⊎ IsAmong k (fault_of program words) → Refuses words f
-refuses words k fault.Memory told passes h = tt
-refuses words k (fault.Usage text) told passes h = refused_by (λ x. not (is_help x)) words k told.0 (ap not told.1) passes h
-refuses words k (fault.Help text) told passes h = refused_by is_help words k told.0 told.1 passes h
+refuses words k fault.Memory message passes h = tt
+refuses words k (fault.Usage text) message passes h = refused_by (λ x. not (is_help x)) words k message.0 (ap not message.1) passes h
+refuses words k (fault.Help text) message passes h = refused_by is_help words k message.0 message.1 passes h

@@ -1,4 +1,5 @@
--- That each number of a command line without a fault is one of its range: the value given, or else the default, passes its rule.
+-- Each number of a command line without a fault is in its range: the given value, or else the default, passes
+-- its rule.
 use Rattle.std.proofs.Common.{◌≡◌, ◌⊎◌, ◌<◌, ◌≤◌, ◌^◌, ◌∙◌, ℕ, inl, inr, pos, ap, ap₂, sym, subst, refl, Bool, true, false, cond, List, [], ◌∷◌, Option, Some, None, codes}
 use Rattle.std.specs.Prelude.{IsSomeAnd, Ok, Result, option_and_then, option_map, slice_get}
 use Rattle.std.specs.Str.Parse.{ParsesUnsigned}
@@ -37,7 +38,7 @@ module _ (name : Text) (most : ℕ) where
         within = accepts-Accepts false range v (passed (accepts false range v) _ first);
       }
 
-  -- where words without a fault name a command that may be given this number, it has it or none
+  -- if words without a fault name a command that may be given this number, it has the number or none
   meets_number_if_given : (commands : List Text) → AllHave name false range [] commands → (words : List Text) → fault_of program words ≡ []
       → Meets commands (λ rows. (one_of name rows ≡ None) ⊎ HasNumber name most rows) (subcommand_of program words)
   meets_number_if_given commands have words none = go (subcommand_of program words) (meets_if_given name false range [] commands have tt words none)
@@ -50,7 +51,7 @@ module _ (name : Text) (most : ℕ) where
       go None met = tt
       go (Some m) met = λ one. either m.1 (met one)
 
-  -- where words without a fault name a command with this number, it has it
+  -- if words without a fault name a command with this number, it has the number
   meets_number : (default : Text) (commands : List Text) → AllHave name false range (default ∷ []) commands → FirstPasses range (default ∷ []) → (words : List Text) → fault_of program words ≡ []
       → Meets commands (HasNumber name most) (subcommand_of program words)
   meets_number default commands have passes words none =
@@ -80,7 +81,7 @@ meets_keep = meets_number (codes "keep") most_keep (codes "0") with_keep refl re
 
 -- ---- the number
 
--- what a getter reads at a type of 32 bits of such matches: a number of the range
+-- what a getter of a 32-bit type reads from such matches: a number in the range
 pub number_read : {F : Type 0} (name : Text) (most : ℕ) → most < 2 ^ 32 → (found : Found) (gives : Text → Result ℕ F → Type 0) → ((t : Text) (r : Result ℕ F) → gives t r → ParsesUnsigned 32 10 t r)
     → HasNumber name most (rows_of found) → (o : Option ℕ) → ((t : Text) → one_text found name ≡ Some t → ReadsOne gives t o)
     → IsSomeAnd o (λ n. IsNumberOf name n (rows_of found) × (n ≤ most))

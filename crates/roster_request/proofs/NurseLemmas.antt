@@ -1,4 +1,4 @@
--- Where the words name a command with a text that has to be given, and have no fault, the text is among clap's matches.
+-- If the words name a command with a required text, and have no fault, the text is among clap's matches.
 use Rattle.std.proofs.Common.{◌≡◌, ◌∙◌, ap, refl, true, List, [], ◌∷◌, Option, Some, None, is_some, codes}
 use Rattle.std.specs.Prelude.{option_and_then, slice_get}
 use Rattle.clap.specs.Walk.{Row, Text}
@@ -18,7 +18,7 @@ module _ (name : Text) where
       go [] first = absurd first
       go (v ∷ vs) first = refl
 
-  -- where words without a fault name one of these commands, it has the text
+  -- if words without a fault name one of these commands, it has the text
   meets_given : (commands : List Text) → AllHave name true parser.String [] commands → (words : List Text) → fault_of program words ≡ [] → Meets commands (IsGiven name) (subcommand_of program words)
   meets_given commands have words none =
       go (subcommand_of program words) (meets_value name true parser.String [] commands have tt (there_if_required name true parser.String [] refl) words none)

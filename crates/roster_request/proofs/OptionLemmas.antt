@@ -1,5 +1,6 @@
--- An option with one value. Where words without a fault name a command that has it, it has a row, the first value of which its parser
--- takes: that of a use, or else its default, unless it has to be given.
+-- An option with one value. If words without a fault name a command that has it, the option has a row of
+-- matches, the first value of which its parser takes: the value of a use, or else the default, unless the
+-- option is required.
 use Rattle.std.proofs.Common.{◌≡◌, ◌∙◌, ◌+◌, ◌&&◌, ◌||◌, ◌⊎◌, inl, inr, Bool, cond, true, false, not, refl, sym, ap, subst, List, [], ◌∷◌, ◌++◌, length, map, min, Option, Some, None, true≢false}
 use Rattle.std.specs.Prelude.{IfSome, find, option_map, ⊤}
 use Rattle.std.specs.Option.{option_map_or}
@@ -42,7 +43,7 @@ is_one_of_list (first ∷ rest) name (inl same) = ap (λ b. b || is_one_of rest 
 is_one_of_list (first ∷ rest) name (inr later) = ap (λ b. bytes_eq name first || b) (is_one_of_list rest name later) ∙ or_true (bytes_eq name first)
 
 module _ (names : List Text) (has : List Row → Type 0) where
-  -- where this command is one of these, its rows have it at the end of words without a fault
+  -- if this command is one of these, its rows have the option at the end of words without a fault
   abbrev HasAt : Shape → Type 0
   HasAt s = (words : List Text) → level_fault s [] nothing_held words false [] ≡ [] → IsOneOf names s.name → has (rows_after s.rules [] words)
 
@@ -83,14 +84,14 @@ first_stays : (parser : ValueParser) (vs ws : List Text) → FirstPasses parser 
 first_stays parser [] ws h = absurd h
 first_stays parser (v ∷ vs) ws h = h
 
--- the option has a row, read by its parser, the first value of which passes
+-- the option has a row that its parser has read, the first value of which passes
 pub record HasValue (name : Text) (parser : ValueParser) (rows : List Row) : Type 0 where
   pub row : Row
   pub found : find (λ (r : Row). bytes_eq r.id name) rows ≡ Some row
   pub reading : row.reading ≡ reading_of parser
   pub first : FirstPasses parser row.values
 
--- a row stays where values come to another, or to it
+-- a row stays when values come to another row, or to it
 has_stays : (id other : Text) (how : Reading) (source : ValueSource) (vs : List Text) (rows : List Row) → has_row id rows ≡ true → has_row id (with_values other how source vs rows) ≡ true
 has_stays id other how source vs [] has = absurd (true≢false (sym has))
 has_stays id other how source vs (r ∷ rs) has = go (bytes_eq r.id other) (has_stays id other how source vs rs)
@@ -146,7 +147,7 @@ module _ (name : Text) (parser : ValueParser) where
   values_keep id how s vs rows own kept =
       at_row_keeps id (more_values s vs) _ rows (λ r k. ((λ same. ((k same).0, first_stays parser r.values vs (k same).1)), tt)) (own, tt) kept
 
-  -- rows with one of this name have it
+  -- rows that include one of this name have it
   has_value : (rows : List Row) → Kept rows → has_row name rows ≡ true → HasValue name parser rows
   has_value [] kept has = absurd (true≢false (sym has))
   has_value (r ∷ rs) kept has = go (bytes_eq r.id name) refl (has_value rs kept.1) has
@@ -158,7 +159,7 @@ module _ (name : Text) (parser : ValueParser) where
       go true e later h = record { row = r; found = found_at true e; reading = (kept.0 e).0; first = (kept.0 e).1 }
       go false e later h = let rest = later h in record { row = rest.row; found = found_at false e ∙ rest.found; reading = rest.reading; first = rest.first }
 
-  -- they have it, or no row of its name
+  -- the rows have it, or no row of its name
   abbrev pub HasIfGiven : List Row → Type 0
   HasIfGiven rows = (find (λ (r : Row). bytes_eq r.id name) rows ≡ None) ⊎ HasValue name parser rows
 
@@ -203,7 +204,7 @@ both_false : (x y : Bool) → (x || y) ≡ false → (x ≡ false) × (y ≡ fal
 both_false true y e = absurd (true≢false e)
 both_false false y e = (refl, e)
 
--- at the end of a level without a fault no argument is wanted
+-- at the end of a level without a fault no required argument is missing
 none_wanted : (help subcommand argument : Bool) → check_kinds help subcommand argument ≡ [] → argument ≡ false
 none_wanted true subcommand argument e = absurd (cc)
 none_wanted false true argument e = absurd (cc)
@@ -214,17 +215,17 @@ not_negated : (negates wanted : Bool) → (not (negates && false) && wanted) ≡
 not_negated true wanted e = e
 not_negated false wanted e = e
 
--- a default passes, where there is one
+-- a default passes, if there is one
 abbrev pub DefaultPasses : ValueParser → List Text → Type 0
 DefaultPasses parser [] = ⊤
 DefaultPasses parser (v ∷ vs) = FirstPasses parser (v ∷ vs)
 
 module _ (name : Text) (required : Bool) (parser : ValueParser) (defaults : List Text) where
-  -- its rule, as clap completes it
+  -- the option's rule, as clap completes it
   abbrev a : Rule
   a = record (filled (value_rule name)) { required = required; parser = Some parser; defaults = defaults }
 
-  -- no other rule has its name
+  -- no other rule has the option's name
   abbrev IsOnly : Rule → Type 0
   IsOnly b = bytes_eq b.id name ≡ true → b ≡ a
 
@@ -259,11 +260,11 @@ module _ (name : Text) (required : Bool) (parser : ValueParser) (defaults : List
   IsAmong [] = ⊥
   IsAmong (b ∷ bs) = (b ≡ a) ⊎ IsAmong bs
 
-  -- where this command has it, words without a fault give it a row
+  -- if this command has the option, words without a fault give it a row
   abbrev pub IsThere : Shape → Type 0
   IsThere s = IsAmong s.rules → (words : List Text) → level_fault s [] nothing_held words false [] ≡ [] → has_row name (rows_after s.rules [] words) ≡ true
 
-  -- it has to be given
+  -- the option is required
   pub there_if_required : required ≡ true → (s : Shape) → IsThere s
   there_if_required is_required s among words none =
       let end = (walk s.rules [] nothing_held words).held in
@@ -279,7 +280,7 @@ module _ (name : Text) (required : Bool) (parser : ValueParser) (defaults : List
           let own = subst (λ (r : Rule). (r.required && not (is_given r.id rows)) ≡ false) same (both_false _ _ e).0 in
           not-false (is_given name rows) (subst (λ t. (t && not (is_given name rows)) ≡ false) is_required own)
 
-  -- it has a default
+  -- the option has a default
   pub there_by_default : FirstPasses parser defaults → (s : Shape) → IsThere s
   there_by_default first s among words none = in_all s.rules among (settled s.rules (walk s.rules [] nothing_held words).held).rows
     where
@@ -308,7 +309,7 @@ module _ (name : Text) (required : Bool) (parser : ValueParser) (defaults : List
 
   -- ---- the commands that have it
 
-  -- the rules of its name
+  -- the rules of the option's name
   abbrev named : List Rule → List Rule
   named = filter (λ (b : Rule). bytes_eq b.id name)
 
@@ -331,15 +332,15 @@ module _ (name : Text) (required : Bool) (parser : ValueParser) (defaults : List
           (((λ h. same), none_named bs none), inl same)
       go false e later f = let rest = later f in (((λ same. absurd (true≢false (sym same ∙ e))), rest.0), inr rest.1)
 
-  -- the command's rules of its name, if it is one of these
+  -- the command's rules of the option's name, if it is one of these commands
   abbrev looked_up : List Text → Shape → List Rule
   looked_up names s = cond (is_one_of names s.name) (named s.rules) (a ∷ [])
 
-  -- among all commands of the program each of these has it, and no other argument of its name
+  -- among all commands of the program each of these has the option, and no other argument of its name
   abbrev pub AllHave : List Text → Type 0
   AllHave names = map (looked_up names) subs ≡ map (λ (s : Shape). a ∷ []) subs
 
-  -- words without a fault that name one of these commands give it a value
+  -- words without a fault that name one of these commands give the option a value
   pub meets_value : (names : List Text) → AllHave names → DefaultPasses parser defaults → ((s : Shape) → IsThere s) → (words : List Text) → fault_of program words ≡ []
       → Meets names (HasValue name parser) (subcommand_of program words)
   meets_value names have passes there =
@@ -352,7 +353,7 @@ module _ (name : Text) (required : Bool) (parser : ValueParser) (defaults : List
           let defaults_keep = each_weaker IsOnly (DefaultKeeps (Kept name parser)) (default_keeps passes) s.rules rules.0 in
           has_value name parser (rows_after s.rules [] words) (level_keeps (Kept name parser) s uses defaults_keep words none tt) (there s rules.1 words none)
 
-  -- where it may be left out, they give it a value or none
+  -- if the option may be left out, they give it a value or none
   pub meets_if_given : (names : List Text) → AllHave names → DefaultPasses parser defaults → (words : List Text) → fault_of program words ≡ []
       → Meets names (HasIfGiven name parser) (subcommand_of program words)
   meets_if_given names have passes =

@@ -1,5 +1,5 @@
--- One walk over clap's reading of the words of a command: what each use of an argument keeps, and each default, holds of the rows at
--- the end of words without a fault.
+-- One walk over clap's reading of the words of a command: what each use of an argument and each default keep
+-- holds for the rows at the end of words without a fault.
 use Rattle.std.proofs.Common.{◌≡◌, ◌&&◌, ℕ, zero, suc, Bool, cond, true, false, List, [], ◌∷◌, ◌++◌, length, drop, Option, Some, None, is_some}
 use Rattle.std.specs.Prelude.{IfSome, encode_utf8, find, slice_get, ⊤}
 use Rattle.std.specs.Option.{option_map_or}
@@ -28,7 +28,7 @@ pub each_weaker : {X : Type 0} (P Q : X → Type 0) → ((x : X) → P x → Q x
 each_weaker P Q f [] h = tt
 each_weaker P Q f (x ∷ xs) h = (f x h.0, each_weaker P Q f xs h.1)
 
--- what holds of each item holds of one that is found
+-- what holds for each item of a list holds for one that is found
 pub each_found : {X : Type 0} (P : X → Type 0) (test : X → Bool) (xs : List X) → Each P xs → IfSome (find test xs) P
 each_found P test [] h = tt
 each_found P test (x ∷ xs) h = go (test x) (each_found P test xs h.1)
@@ -97,7 +97,7 @@ module _ (Kept : List Row → Type 0) where
         go true e = option_keeps a keeps v h e kept
         go false e = flag_keeps a keeps v h e kept
 
-    -- one flag of a bundle, where those after it keep the rows
+    -- one flag of a bundle keeps the rows, if the flags after it do
     short_keeps : (o : Option Rule) → MayUse o → (rest : Text) (h : Held) (later : Held → Held × Outcome) (fault : Held → Kinds)
         → ((g : Held) → fault g ≡ [] → Kept g.rows → Kept (later g).0.rows) → short_fault c again o rest h fault ≡ [] → Kept h.rows → Kept (short_met c o rest h later).0.rows
     short_keeps None keeps rest h later fault goes none kept = kept

@@ -31,7 +31,7 @@ value_rule name = record (new_rule name) {
   value_names = 1;
 }
 
--- one that has to be given
+-- an option that is required
 abbrev pub given_rule : Text → Rule
 given_rule name = record (value_rule name) { required = true }
 
@@ -50,7 +50,7 @@ shift_rule = given_rule (codes "shift")
 abbrev pub skill_rule : Rule
 skill_rule = value_rule (codes "skill")
 
--- a number from 0 to the greatest, and what it is where it isn't given
+-- a number from 0 to the greatest, with the default that it has if it isn't given
 abbrev pub number_rule : Text → ℕ → Text → Rule
 number_rule name most default = record (value_rule name) {
   parser = Some (parser.Signed (pos 0) (pos most));
@@ -61,19 +61,20 @@ number_rule name most default = record (value_rule name) {
 abbrev pub rounds_rule : Rule
 rounds_rule = number_rule (codes "rounds") most_rounds (codes "100")
 
--- how often a floor may part the rosters
+-- how many branchings a lower bound may make
 abbrev pub nodes_rule : Rule
 nodes_rule = number_rule (codes "nodes") most_nodes (codes "0")
 
--- how many searches a run may make, a number that may be left out
+-- how many searches a run may make; it may be left out
 abbrev pub searches_rule : Rule
-searches_rule = record (value_rule (codes "searches")) { parser = Some (parser.Signed (pos 0) (pos most_searches)) }
+searches_rule =
+    record (value_rule (codes "searches")) { parser = Some (parser.Signed (pos 0) (pos most_searches)) }
 
--- what its random numbers begin with
+-- the seed of its random numbers
 abbrev pub seed_rule : Rule
 seed_rule = number_rule (codes "seed") most_seed (codes "1")
 
--- kicks alone, where this is among the words
+-- whether the run makes only kicks
 abbrev pub kicks_rule : Rule
 kicks_rule = record (new_rule (codes "kicks")) { long = Some (codes "kicks"); action = Some action.SetTrue }
 
@@ -81,7 +82,7 @@ kicks_rule = record (new_rule (codes "kicks")) { long = Some (codes "kicks"); ac
 abbrev pub from_rule : Rule
 from_rule = number_rule (codes "from") most_from (codes "0")
 
--- how many points a day costs that becomes another
+-- how many points each day costs that changes from the given roster
 abbrev pub keep_rule : Rule
 keep_rule = number_rule (codes "keep") most_keep (codes "0")
 
@@ -89,7 +90,7 @@ keep_rule = number_rule (codes "keep") most_keep (codes "0")
 abbrev pub command_of : Text → App
 command_of name = with_rule (new_app name) files_rule
 
--- one with arguments of its own
+-- a command with arguments of its own
 abbrev pub own_command_of : List Rule → Text → App
 own_command_of rules name = with_rule (fold with_rule (new_app name) rules) files_rule
 
@@ -105,10 +106,12 @@ plan = own_command_of (searches_rule ∷ seed_rule ∷ from_rule ∷ keep_rule �
 abbrev pub who : App
 who = own_command_of (day_rule ∷ shift_rule ∷ skill_rule ∷ from_rule ∷ []) (codes "who")
 
--- the program before its commands: it has a version, and one of its commands is wanted
+-- the program before its commands: it has a version, and requires one of its commands
 abbrev pub bare : App
 bare = record {
-  top = record (new_app (codes "roster")).top { has_version = true; subcommand_required = true; arg_required_else_help = true };
+  top =
+      record (new_app (codes "roster")).top
+      { has_version = true; subcommand_required = true; arg_required_else_help = true };
   subs = [];
 }
 
@@ -116,8 +119,11 @@ bare = record {
 abbrev pub commands : List Shape
 commands =
     (command_of (codes "show")).top ∷ (command_of (codes "cost")).top ∷ (command_of (codes "sizes")).top
-    ∷ (own_command_of (nurse_rule ∷ from_rule ∷ keep_rule ∷ []) (codes "best")).top ∷ (own_command_of (rounds_rule ∷ from_rule ∷ keep_rule ∷ []) (codes "improve")).top
-    ∷ (own_command_of (rounds_rule ∷ nodes_rule ∷ from_rule ∷ keep_rule ∷ []) (codes "bound")).top ∷ (own_command_of (searches_rule ∷ seed_rule ∷ kicks_rule ∷ from_rule ∷ keep_rule ∷ []) (codes "polish")).top
+    ∷ (own_command_of (nurse_rule ∷ from_rule ∷ keep_rule ∷ []) (codes "best")).top
+    ∷ (own_command_of (rounds_rule ∷ from_rule ∷ keep_rule ∷ []) (codes "improve")).top
+    ∷ (own_command_of (rounds_rule ∷ nodes_rule ∷ from_rule ∷ keep_rule ∷ []) (codes "bound")).top
+    ∷ (own_command_of (searches_rule ∷ seed_rule ∷ kicks_rule ∷ from_rule ∷ keep_rule ∷ [])
+    (codes "polish")).top
     ∷ plan.top ∷ who.top ∷ []
 
 -- the program's definition for clap
@@ -136,7 +142,7 @@ name_of (command.Polish searches seed from alone keep) = codes "polish"
 name_of (command.Plan searches seed from keep) = codes "plan"
 name_of (command.Who day shift skill from) = codes "who"
 
--- it is the name of one of these commands
+-- one of these commands has this name
 abbrev pub IsNameOf : List Shape → Text → Type 0
 IsNameOf [] name = ⊥
 IsNameOf (first ∷ rest) name = (name ≡ first.name) ⊎ IsNameOf rest name
@@ -145,7 +151,8 @@ IsNameOf (first ∷ rest) name = (name ≡ first.name) ⊎ IsNameOf rest name
 abbrev pub IsGiven : Text → List Row → Type 0
 IsGiven name rows = is_some (first_of name rows) ≡ true
 
--- the text that clap has for an argument of this name, as it was given and as it is read, is a number from 0 to the greatest
+-- the text that clap has for an argument of this name, as it was given and as it is read, is a number from 0
+-- to the greatest
 pub record HasNumber (name : Text) (most : ℕ) (rows : List Row) : Type 0 where
   pub text : Text
   pub read : one_of name rows ≡ Some (without_minus text)
@@ -181,12 +188,12 @@ with_nurse = codes "best" ∷ []
 abbrev pub with_assignment : List Text
 with_assignment = codes "who" ∷ []
 
--- the commands with a number of rounds, those that may have one of searches, those that may keep the given roster, and those that leave
--- some weeks as they are
+-- the commands with a number of rounds, those that may have a number of searches, those that may charge for
+-- changed days, and those that leave some weeks as they are
 abbrev pub with_rounds : List Text
 with_rounds = codes "improve" ∷ codes "bound" ∷ []
 
--- the one that may part the rosters
+-- the command that may branch
 abbrev pub with_nodes : List Text
 with_nodes = codes "bound" ∷ []
 
@@ -199,7 +206,7 @@ with_keep = codes "best" ∷ codes "polish" ∷ codes "plan" ∷ with_rounds
 abbrev pub with_from : List Text
 with_from = codes "best" ∷ codes "polish" ∷ codes "plan" ∷ codes "who" ∷ with_rounds
 
--- where one of these commands was met, its matches have the number, or may have it
+-- if one of these commands was met, its matches have the number, or may have it
 abbrev pub Meets : List Text → (List Row → Type 0) → Option (Text × List Row) → Type 0
 Meets names has None = Unit {0}
 Meets names has (Some met) = IsOneOf names met.0 → has met.1
@@ -208,7 +215,8 @@ Meets names has (Some met) = IsOneOf names met.0 → has met.1
 abbrev pub files_in : List Row → List Text
 files_in rows = unwrap_or (all_of (codes "FILE") rows) []
 
--- it is the number, of 32 bits, of the text that clap reads for an argument of this name: the text given, or else its rule's default
+-- the number, of 32 bits, that the text of an argument of this name spells: the given text, or else its
+-- rule's default
 pub record IsNumberOf (name : Text) (number : ℕ) (rows : List Row) : Type 0 where
   pub text : Text
   pub read : one_of name rows ≡ Some text
@@ -216,12 +224,12 @@ pub record IsNumberOf (name : Text) (number : ℕ) (rows : List Row) : Type 0 wh
   pub fits : number < 2 ^ 32
   pub value : number ≡ digits_value 10 (without_leading_plus text)
 
--- it is that number, or none where clap has no text for the argument
+-- the number is that one, or none if clap has no text for the argument
 abbrev pub IsNumberIfGiven : Text → Option ℕ → List Row → Type 0
 IsNumberIfGiven name None rows = one_of name rows ≡ None
 IsNumberIfGiven name (Some number) rows = IsNumberOf name number rows
 
--- it is whether this flag was given, by the text that clap reads for it: none, or one of two
+-- whether this flag was given, by the text that clap reads for it: no text, or one of two
 pub record IsFlag (name : Text) (is_given : Bool) (rows : List Row) : Type 0 where
   pub none : one_of name rows ≡ None → is_given ≡ false
   pub yes : one_of name rows ≡ Some (codes "true") → is_given ≡ true
@@ -229,28 +237,44 @@ pub record IsFlag (name : Text) (is_given : Bool) (rows : List Row) : Type 0 whe
 
 -- the command's own arguments are those among its matches
 abbrev pub HasArguments : Command → List Row → Type 0
-HasArguments (command.Best nurse from keep) rows = (first_of (codes "nurse") rows ≡ Some (string_bytes nurse)) × IsNumberOf (codes "from") from rows × IsNumberOf (codes "keep") keep rows
-HasArguments (command.Improve rounds from keep) rows = IsNumberOf (codes "rounds") rounds rows × IsNumberOf (codes "from") from rows × IsNumberOf (codes "keep") keep rows
+HasArguments (command.Best nurse from keep) rows =
+    (first_of (codes "nurse") rows ≡ Some (string_bytes nurse)) × IsNumberOf (codes "from") from rows
+    × IsNumberOf (codes "keep") keep rows
+HasArguments (command.Improve rounds from keep) rows =
+    IsNumberOf (codes "rounds") rounds rows × IsNumberOf (codes "from") from rows
+    × IsNumberOf (codes "keep") keep rows
 HasArguments (command.Bound rounds nodes from keep) rows =
-    IsNumberOf (codes "rounds") rounds rows × IsNumberOf (codes "nodes") nodes rows × IsNumberOf (codes "from") from rows × IsNumberOf (codes "keep") keep rows
+    IsNumberOf (codes "rounds") rounds rows × IsNumberOf (codes "nodes") nodes rows
+    × IsNumberOf (codes "from") from rows × IsNumberOf (codes "keep") keep rows
 HasArguments (command.Polish searches seed from alone keep) rows =
-    IsNumberIfGiven (codes "searches") searches rows × IsNumberOf (codes "seed") seed rows × IsNumberOf (codes "from") from rows × IsFlag (codes "kicks") alone rows × IsNumberOf (codes "keep") keep rows
-HasArguments (command.Plan searches seed from keep) rows = IsNumberIfGiven (codes "searches") searches rows × IsNumberOf (codes "seed") seed rows × IsNumberOf (codes "from") from rows × IsNumberOf (codes "keep") keep rows
+    IsNumberIfGiven (codes "searches") searches rows × IsNumberOf (codes "seed") seed rows × IsNumberOf
+    (codes "from") from rows × IsFlag (codes "kicks") alone rows × IsNumberOf (codes "keep") keep rows
+HasArguments (command.Plan searches seed from keep) rows =
+    IsNumberIfGiven (codes "searches") searches rows × IsNumberOf (codes "seed") seed rows
+    × IsNumberOf (codes "from") from rows × IsNumberOf (codes "keep") keep rows
 HasArguments (command.Who day shift skill from) rows =
-    (first_of (codes "day") rows ≡ Some (string_bytes day)) × (first_of (codes "shift") rows ≡ Some (string_bytes shift)) × (first_of (codes "skill") rows ≡ option_map string_bytes skill) × IsNumberOf (codes "from") from rows
+    (first_of (codes "day") rows ≡ Some (string_bytes day))
+    × (first_of (codes "shift") rows ≡ Some (string_bytes shift)) ×
+    (first_of (codes "skill") rows ≡ option_map string_bytes skill) × IsNumberOf (codes "from") from rows
 HasArguments _ rows = Unit {0}
 
--- the rounds, partings or searches of a command that has some are within their limit, and so are its first week and its points
+-- the rounds, branchings or searches of a command that has some are within their limit, and so are its first
+-- week and its points
 abbrev pub IsInRange : Command → Type 0
 IsInRange (command.Best nurse from keep) = (from ≤ most_from) × (keep ≤ most_keep)
-IsInRange (command.Improve rounds from keep) = (rounds ≤ most_rounds) × (from ≤ most_from) × (keep ≤ most_keep)
-IsInRange (command.Bound rounds nodes from keep) = (rounds ≤ most_rounds) × (nodes ≤ most_nodes) × (from ≤ most_from) × (keep ≤ most_keep)
-IsInRange (command.Polish searches seed from alone keep) = IfSome searches (λ n. n ≤ most_searches) × (from ≤ most_from) × (keep ≤ most_keep)
-IsInRange (command.Plan searches seed from keep) = IfSome searches (λ n. n ≤ most_searches) × (from ≤ most_from) × (keep ≤ most_keep)
+IsInRange (command.Improve rounds from keep) =
+    (rounds ≤ most_rounds) × (from ≤ most_from) × (keep ≤ most_keep)
+IsInRange (command.Bound rounds nodes from keep) =
+    (rounds ≤ most_rounds) × (nodes ≤ most_nodes) × (from ≤ most_from) × (keep ≤ most_keep)
+IsInRange (command.Polish searches seed from alone keep) =
+    IfSome searches (λ n. n ≤ most_searches) × (from ≤ most_from) × (keep ≤ most_keep)
+IsInRange (command.Plan searches seed from keep) =
+    IfSome searches (λ n. n ≤ most_searches) × (from ≤ most_from) × (keep ≤ most_keep)
 IsInRange (command.Who day shift skill from) = from ≤ most_from
 IsInRange _ = Unit {0}
 
--- the command that was met, by its name and its matches, is that of the request, with its arguments and its files
+-- the command that was met, by its name and its matches, is that of the request, with its arguments and its
+-- files
 pub record IsAskedIn (met : Option (Text × List Row)) (r : Request) : Type 0 where
   pub rows : List Row
   pub command : met ≡ Some (name_of r.command, rows)
@@ -267,24 +291,24 @@ is_help kind.DisplayHelp = true
 is_help kind.DisplayVersion = true
 is_help _ = false
 
--- an error of this kind is told as want of memory, help or a mistake
-abbrev pub TellsKind : ErrorKind → CliFault → Type 0
-TellsKind k fault.Memory = Unit {0}
-TellsKind k (fault.Usage text) = (k ≢ kind.OutOfMemory) × (is_help k ≡ false)
-TellsKind k (fault.Help text) = (k ≢ kind.OutOfMemory) × (is_help k ≡ true)
+-- an error of this kind is reported as want of memory, help or a mistake
+abbrev pub HasKindOf : ErrorKind → CliFault → Type 0
+HasKindOf k fault.Memory = Unit {0}
+HasKindOf k (fault.Usage text) = (k ≢ kind.OutOfMemory) × (is_help k ≡ false)
+HasKindOf k (fault.Help text) = (k ≢ kind.OutOfMemory) × (is_help k ≡ true)
 
--- clap's definition doesn't take the words, and p holds of a kind of fault that they have
+-- clap's definition doesn't take the words, and p holds for a kind of fault that they have
 pub record IsRefused (p : ErrorKind → Bool) (words : List Text) : Type 0 where
   pub untaken : takes program words ≡ false
   pub kind : list_any p (fault_of program words) ≡ true
 
--- why words are refused, where memory is found
+-- why words are refused, if there is memory
 abbrev pub Refuses : List Text → CliFault → Type 0
 Refuses words fault.Memory = Unit {0}
 Refuses words (fault.Usage text) = IsRefused (λ k. not (is_help k)) words
 Refuses words (fault.Help text) = IsRefused is_help words
 
--- its text isn't empty
+-- the fault's text isn't empty
 abbrev pub HasText : CliFault → Type 0
 HasText fault.Memory = Unit {0}
 HasText (fault.Usage text) = string_bytes text ≢ []

@@ -1,11 +1,11 @@
--- The limits of the command line (our own).
+-- The limits of the command line.
 use Rattle.std.specs.Prelude.{ℕ}
 
 -- the most rounds that a run may be asked for
 abbrev pub most_rounds : ℕ
 most_rounds = 1000
 
--- how often a floor may part the rosters
+-- how many branchings a lower bound may make
 abbrev pub most_nodes : ℕ
 most_nodes = 10000
 
@@ -21,6 +21,6 @@ most_seed = 4294967295
 abbrev pub most_from : ℕ
 most_from = 52
 
--- the most points for a day that becomes another than in the given roster
+-- the most points that a day may cost that changes from the given roster
 abbrev pub most_keep : ℕ
 most_keep = 100

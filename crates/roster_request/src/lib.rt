@@ -1,8 +1,9 @@
 //! The command line of the program `roster`: what its words ask for.
 //!
-//! The command line as `clap` understands it, what words ask for by it, and the kinds of refusal are defined in
-//! `specs/CommandLine.antt`. `request_of` promises that a request is just what the words ask for, with numbers in their range, and that
-//! words without a request are refused by `clap`'s own reading, with a text that isn't empty.
+//! `specs/CommandLine.antt` defines the command line as `clap` understands it, what words ask for by it, and
+//! the kinds of refusal. `request_of` promises that a request is just what the words ask for, with numbers in
+//! their range, and that words without a request are refused by `clap`'s own reading, with a text that isn't
+//! empty.
 #![tactic(auto)]
 
 mod program;

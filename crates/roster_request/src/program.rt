@@ -15,24 +15,24 @@ use clap::builder::ValueParser;
 use clap::{Arg, ArgAction, Command};
 use std::alloc::{AllocError, Global};
 
-/// The name by which the files of a command are asked for.
+/// The name of the argument for a command's files.
 pub(crate) const FILES: &str = "FILE";
 
-/// The name by which the nurse of a command is asked for.
+/// The name of the option for a command's nurse.
 pub(crate) const NURSE: &str = "nurse";
 
-/// The names by which the parts of an assignment are asked for.
+/// The names of the options for an assignment.
 pub(crate) const DAY: &str = "day";
 
 pub(crate) const SHIFT: &str = "shift";
 
 pub(crate) const SKILL: &str = "skill";
 
-/// The name by which kicks alone are asked for.
+/// The name of the flag for kicks only.
 pub(crate) const KICKS: &str = "kicks";
 
-/// A number that a command may be given: by the option `name`, from 0 to `most`, and `default` where it isn't given. The help calls it
-/// `value`, and says `help` about it.
+/// A number that a command may be given by the option `name`, from 0 to `most`. It is `default` if it isn't
+/// given. The help calls it `value`, and says `help` about it.
 #[derive(Clone, Copy)]
 pub(crate) struct NumberOption {
     pub(crate) name: &'static str,
@@ -51,7 +51,7 @@ pub(crate) const ROUNDS: NumberOption = NumberOption {
     help: ROUND_COUNT,
 };
 
-/// How often a floor may part the rosters.
+/// How many branchings a lower bound may make.
 pub(crate) const NODES: NumberOption = NumberOption {
     name: "nodes",
     value: "N",
@@ -60,12 +60,12 @@ pub(crate) const NODES: NumberOption = NumberOption {
     help: NODE_COUNT,
 };
 
-/// The name by which a number of searches is asked for, and the greatest.
+/// The name of the option for a number of searches, and the greatest number.
 pub(crate) const SEARCHES: &str = "searches";
 
 const MOST_SEARCHES: i64 = 10_000_000;
 
-/// What the random numbers of a run begin with.
+/// The seed of a run's random numbers.
 pub(crate) const SEED: NumberOption = NumberOption {
     name: "seed",
     value: "S",
@@ -74,7 +74,7 @@ pub(crate) const SEED: NumberOption = NumberOption {
     help: SEED_NUMBER,
 };
 
-/// The first week that may change, up to as many weeks as the longest case has.
+/// The first week that may change. The greatest freezes all weeks of the longest case.
 pub(crate) const FROM: NumberOption = NumberOption {
     name: "from",
     value: "V",
@@ -83,7 +83,7 @@ pub(crate) const FROM: NumberOption = NumberOption {
     help: FIRST_WEEK,
 };
 
-/// How many points each day costs that becomes another than in the given roster.
+/// How many points each day costs that changes from the given roster.
 pub(crate) const KEEP: NumberOption = NumberOption {
     name: "keep",
     value: "N",
@@ -92,7 +92,8 @@ pub(crate) const KEEP: NumberOption = NumberOption {
     help: KEPT_POINTS,
 };
 
-/// A command with the parts that were made so far, or that there was no memory for one of them.
+/// A command with the arguments that were added so far, or the fault that there was no memory for one of
+/// them.
 type Made<'a> = Result<Command<'a>, AllocError>;
 
 /// The command line of the program.
@@ -105,7 +106,7 @@ pub(crate) fn program<'a>(alloc: Global) -> Result<Command<'a>, AllocError>
     with_search_commands(alloc, with_sizes)
 }
 
-/// A program with the commands that search, after those that it has.
+/// A program with the commands that search, after those that it has already.
 fn with_search_commands<'a>(alloc: Global, program: Made<'a>) -> Made<'a>
     ensures { IfOk result (λ c. IsOkAnd program.entry
         (λ p. app_of c ≡ fold with_subcommand (app_of p) (drop 3 commands))) }
@@ -228,14 +229,15 @@ fn searching_command<'a>(alloc: Global, name: &'a str, about: &'a str, help: &'a
     with_number(alloc, with_searches, SEED)
 }
 
-/// A command before its arguments, with what its help says.
+/// A command before its arguments are added, with its help texts.
 fn command<'a>(alloc: Global, name: &'a str, about: &'a str, help: &'a str) -> Command<'a>
     ensures { app_of result ≡ new_app name.now }
 {
     Command::new(alloc, name).about(about).after_help(help)
 }
 
-/// A command with a first week that may change, points for what is kept, and the files, as its last arguments.
+/// A command with the last of its arguments: the first week that may change, the points for a changed day,
+/// and the files.
 fn with_weeks<'a>(alloc: Global, command: Made<'a>) -> Made<'a>
     ensures { IfOk result (λ c. IsOkAnd command.entry
         (λ before. app_of c ≡ with_rule (with_rule (with_rule (app_of before) from_rule)
@@ -245,7 +247,7 @@ fn with_weeks<'a>(alloc: Global, command: Made<'a>) -> Made<'a>
     with_files(alloc, with_number(alloc, with_from, KEEP))
 }
 
-/// A command with one more value that has to be given.
+/// A command with one more required value.
 fn with_given<'a>(
     alloc: Global,
     command: Made<'a>,
@@ -284,7 +286,7 @@ fn with_searches<'a>(alloc: Global, command: Made<'a>) -> Made<'a>
     command?.arg(searches_arg(alloc))
 }
 
-/// A command that may be asked for kicks alone.
+/// A command that may be asked for kicks only.
 fn with_kicks<'a>(alloc: Global, command: Made<'a>) -> Made<'a>
     ensures { IfOk result (λ c. IsOkAnd command.entry
         (λ before. app_of c ≡ with_rule (app_of before) kicks_rule)) }
@@ -313,7 +315,7 @@ fn files_arg<'a>(alloc: Global) -> Arg<'a>
         .help(TEXTS)
 }
 
-/// A value that has to be given.
+/// A required value.
 fn given_arg<'a>(alloc: Global, name: &'a str, value: &'a str, help: &'a str) -> Arg<'a>
     ensures rule { rule_of result ≡ given_rule name.now }
     ensures local { result.global ≡ false }
@@ -329,7 +331,7 @@ fn skill_arg<'a>(alloc: Global) -> Arg<'a>
     value_arg(alloc, SKILL, "NAME").help(SKILL_NAME)
 }
 
-/// Kicks alone.
+/// The flag for kicks only.
 fn kicks_arg<'a>(alloc: Global) -> Arg<'a>
     ensures rule { rule_of result ≡ kicks_rule }
     ensures local { result.global ≡ false }
@@ -340,7 +342,7 @@ fn kicks_arg<'a>(alloc: Global) -> Arg<'a>
         .help(KICKS_ALONE)
 }
 
-/// A number of searches. Where it is left out, the case says how many.
+/// A number of searches. If it is left out, the number depends on the case.
 fn searches_arg<'a>(alloc: Global) -> Arg<'a>
     ensures rule { rule_of result ≡ searches_rule }
     ensures local { result.global ≡ false }

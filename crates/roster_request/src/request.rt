@@ -4,41 +4,42 @@ ghost use Rattle.std.specs.Prelude.{◌≡◌};
 
 use std::alloc::{AllocError, AllocFailed};
 
-/// What the program is to do. Where it changes rows or bounds what they cost, `keep` is how many points each day of a nurse costs that
-/// becomes another than in the given roster: another shift, or off.
+/// What the program is to do. If it changes rows or bounds what they cost, each day of a nurse that changes
+/// from the given roster (to another shift, to off, or from off) costs `keep` points.
 #[derive(Debug, Drop)]
 pub enum Command {
     /// Writes the solutions that it was given, in canonical form.
     Show,
-    /// Writes what the roster costs by each soft rule, where it keeps the hard rules.
+    /// Writes what the roster costs by each soft rule, if it keeps the hard rules.
     Cost,
     /// Writes how much the search for each nurse takes.
     Sizes,
-    /// Writes the solutions with the best row of the nurse of this name put in, also where it isn't cheaper. The weeks before week
-    /// `from` stay as they are.
+    /// Writes the solutions with the best row of the nurse of this name put in, even if it isn't cheaper. The
+    /// weeks before week `from` stay as they are.
     Best {
         nurse: String,
         from: u16,
         keep: u16,
     },
-    /// Writes the solutions after a run of the improver of at most so many rounds. The weeks before week `from`
-    /// stay as they are.
+    /// Writes the solutions after a run of the improver of at most this number of rounds. The weeks before
+    /// week `from` stay as they are.
     Improve {
         rounds: u16,
         from: u16,
         keep: u16,
     },
-    /// Writes a number that no roster costs less than: none that keeps the hard rules, the weeks before week `from` and fixed days.
-    /// It is the last that rises in so many rounds, and then in so many partings of the rosters.
+    /// Writes a lower bound on all rosters that keep the hard rules, the weeks before week `from` and the
+    /// fixed days: the last that rose in this number of rounds, and then of branchings.
     Bound {
         rounds: u16,
         nodes: u16,
         from: u16,
         keep: u16,
     },
-    /// Writes the solutions after a run that settles the roster, fades it, unless kicks alone are asked for, and then kicks nurses out
-    /// of their rows, again and again, as long as so many searches allow; where no number is given, the case says how many. The seed
-    /// decides what each kick is, and in which order a fade takes the nurses. The weeks before week `from` stay as they are.
+    /// Writes the solutions after a run that settles the roster, makes a fade, unless only kicks are asked
+    /// for, and then makes kicks as long as this number of searches allows. If no number is given, it depends
+    /// on the case. The seed decides what each kick is, and in which order a fade takes the nurses. The weeks
+    /// before week `from` stay as they are.
     Polish {
         searches: Option<u32>,
         seed: u32,
@@ -46,16 +47,17 @@ pub enum Command {
         kicks_alone: bool,
         keep: u16,
     },
-    /// Looks for solutions that keep the hard rules, from whatever solutions it was given, and settles and polishes them as `Polish`
-    /// does, with those of so many searches that are left. The weeks before week `from` stay as they are.
+    /// Looks for solutions that keep the hard rules, from whatever solutions it was given. Then it settles
+    /// and polishes them as `Polish` does, with the searches that are left. The weeks before week `from` stay
+    /// as they are.
     Plan {
         searches: Option<u32>,
         seed: u32,
         from: u16,
         keep: u16,
     },
-    /// Writes who may take an assignment: the shift of this name on this day, with the skill of this name, or with any of a nurse's where
-    /// none is named. The weeks before week `from` stay as they are.
+    /// Writes who may take an assignment: the shift of this name on this day, with the skill of this name, or
+    /// with any skill of the nurse if none is named. The weeks before week `from` stay as they are.
     Who {
         day: String,
         shift: String,
@@ -74,7 +76,7 @@ pub struct Request {
 /// Why words are no request.
 #[derive(Debug, Drop)]
 pub enum CliFault {
-    /// A growth was refused.
+    /// An allocation was refused.
     Memory,
     /// The words are no command line of the program. The text says why.
     Usage(String),

@@ -1,15 +1,15 @@
-//! The texts of the help.
+//! The help texts of the program and of its commands.
 
 pub(crate) const ABOUT: &str =
-    "Reads the texts of a nurse rostering instance, and writes its rosters, what they cost, how \
-    much a search takes, the rosters with the best row of a nurse, better rosters or new ones, \
-    what no roster costs less than, or who may take a shift.";
+    "Reads the texts of a nurse rostering instance and writes its rosters, what they cost, how \
+    much a search takes, the rosters with a nurse's best row, better rosters or new ones, a lower \
+    bound on every roster's cost, or who may take a shift.";
 
 pub(crate) const TEXTS: &str =
     "The texts of the instance: the scenario, the history, and then the weeks and the rosters, in \
     one file or in several";
 
-pub(crate) const SHOW: &str = "Write the rosters as they stand, in one tidy form";
+pub(crate) const SHOW: &str = "Write the rosters as they are, in one tidy form";
 
 pub(crate) const SHOW_HELP: &str = "Examples:
   roster show examples/mini.txt
@@ -21,17 +21,17 @@ texts are read from standard input.";
 pub(crate) const COST: &str = "Write what the roster costs, rule by rule";
 
 pub(crate) const COST_HELP: &str =
-    "The hard rules are asked first: a roster that breaks one isn't costed. The first
-breach goes to standard error, and the status is 1. The hard rules are: enough
-nurses for each shift and skill; no forbidden succession of shifts; no skill
-that a nurse lacks; no work of an absent nurse.
+    "The hard rules are checked first. If the roster breaks one, its cost isn't
+written: the first breach goes to standard error, and the status is 1. The hard
+rules are: enough nurses for each shift and skill; no forbidden succession of
+shifts; no skill that a nurse lacks; no work of an absent nurse.
 
 A line is written for each soft rule, and a last one for their total:
-  S1  30 for each nurse missing to the optimum of a day, shift and skill
+  S1  30 for each nurse lacking to the optimum cover of a day, shift and skill
   S2  15 for each missing or extra day of a run of one shift, 30 of a working run
   S3  30 for each missing or extra day of a run of days off
   S4  10 for each assignment to a shift that the nurse asked not to work
-  S5  30 for each half worked weekend, where the contract wants whole weekends
+  S5  30 for each half worked weekend, if the contract wants whole weekends
   S6  20 for each assignment below the least or above the greatest total
   S7  30 for each worked weekend above the greatest number
   S8  10 for each day of a nurse with a wish to work that isn't met
@@ -45,23 +45,23 @@ texts are read from standard input.";
 pub(crate) const SIZES: &str = "Write how much the search for each nurse takes";
 
 pub(crate) const SIZES_HELP: &str =
-    "What the search for a nurse's best row takes, before it is begun. A line is
+    "What the search for a nurse's best row takes, known before it begins. A line is
 written for each nurse, in the order of the scenario: the name and four numbers,
 as in 'Ann 1296 2592 9072 27216'. To the owner of a small machine they mean:
-  1296   states that the search tells apart. A state is what the days so far mean
-         for the costs of the days to come.
-  2592   labels of 4 bytes each, in two tables: one for each state of the day at
-         hand, and one for each state of the next
+  1296   states that the search distinguishes. A state is what the days so far
+         mean for the costs of the days to come.
+  2592   labels of 4 bytes each, in two tables: one label for each state of the
+         present day, and one for each state of the next
   9072   pointers, one for each state and day
-  27216  steps of the search at most: one from each state, on each day, by each
-         choice of the nurse
+  27216  extensions that the search makes at most: one from each state, on each
+         day, by each choice of the nurse
 
-The search takes one nurse at a time, in the same memory. So it holds what the
+The search takes one nurse at a time, in the same memory. So it needs what the
 line with the greatest numbers says, and some 120 kB more that serve any nurse.
-Beside that a machine must have room for the program, for what it has read, and
-for what a run keeps of each nurse.
+The machine must also have memory for the program, for what it has read, and for
+what a run keeps for each nurse.
 
-The hard rules aren't asked.
+The hard rules aren't checked.
 
 Example:
   roster sizes examples/mini.txt
@@ -69,41 +69,41 @@ Example:
 The files are read one after another, in the order given. Without a file, the
 texts are read from standard input.";
 
-pub(crate) const NURSE_NAME: &str = "The nurse of this name in the scenario, letter for letter";
+pub(crate) const NURSE_NAME: &str = "The nurse's name in the scenario, letter for letter";
 
 pub(crate) const FIRST_WEEK: &str =
-    "The first week that may change, 0 to 52: the weeks before it stay as they stand";
+    "The first week that may change, 0 to 52: the weeks before it stay as they are";
 
 pub(crate) const KEPT_POINTS: &str =
-    "Each day of a nurse that becomes another than in the given roster costs so many points more, \
-     0 to 100";
+    "Each day of a nurse that changes from the given roster costs N points more, 0 to 100";
 
 pub(crate) const BEST: &str = "Put a nurse's best row into the rosters, and write them";
 
 pub(crate) const BEST_HELP: &str =
-    "The best row of a nurse: of all rows of this nurse with which the hard rules are
-kept while the rows of the others stay as they are, the first of the cheapest.
-Of two that cost the same, the first is that with the earlier choice on the
-first day on which they differ: off, then by shift and skill in the order of
-the scenario. The row is put in also where the roster costs no less with it.
+    "The best row of a nurse is the first of the cheapest among all rows of this
+nurse that keep the hard rules while the rows of the others stay as they are. Of
+two that cost the same, the first is the one with the earlier choice on the
+first day on which they differ: off, then by shift and skill in the order of the
+scenario. The row is put in even if the roster costs no less with it.
 
-The hard rules are asked first, as for 'roster cost'. To standard error go two
-lines, what the roster costs before, and what it costs with the row:
+The hard rules are checked first, as for 'roster cost'. Two lines go to standard
+error: what the roster costs before, and what it costs with the row:
   start 470
   best Ann 180
 
-With --from V the weeks 0 to V - 1 are frozen: the nurse's days in them stay as
-they stand, and so do those of the section FIXED; the row is the best of those
-that keep them. All weeks are read, and count for what the roster costs. Where V
-is above the last week, all stays.
+With --from V, weeks 0 to V - 1 are frozen: the nurse's days in them stay as
+they are, and so do those of the section FIXED; the row is the best of those
+that keep them. All weeks are read and count towards the cost. If V is above the
+last week, nothing changes.
 
-With --keep N each day of a nurse that becomes another than in the given roster,
-another shift or off, costs N points more: the roster stays much as it is. Then
-the log begins with a line 'keep N', and its numbers are with these points.
+With --keep N, each day of a nurse that changes from the given roster (to
+another shift, to off, or from off) costs N points more, so that the roster
+stays much as it is. Then the log begins with a line 'keep N', and its numbers
+include these points.
 
 What isn't promised: that this is the best roster, since the others' rows stay;
 that it is best for two nurses at once; how long the search takes. For its
-memory and its greatest number of steps see 'roster sizes'.
+memory and its greatest number of extensions, see 'roster sizes'.
 
 Examples:
   roster best --nurse Ann examples/mini.txt > better.txt
@@ -112,45 +112,47 @@ Examples:
 The files are read one after another, in the order given. Without a file, the
 texts are read from standard input.";
 
-pub(crate) const ROUND_COUNT: &str = "The run makes so many rounds at most, 0 to 1000";
+pub(crate) const ROUND_COUNT: &str = "The run makes at most N rounds, 0 to 1000";
 
 pub(crate) const IMPROVE: &str = "Make the rosters cheaper, nurse by nurse, and write them";
 
 pub(crate) const IMPROVE_HELP: &str =
-    "A step takes one nurse and puts the best row of this nurse in where the roster
-becomes cheaper by it; else it changes nothing. 'roster best --help' says what
-the best row is. A round is one step for each nurse, in the order of the
-scenario. A run makes rounds until one changes nothing, or as many as --rounds
-allows.
+    "A step takes one nurse and puts in this nurse's best row if that makes the
+roster cheaper; otherwise it changes nothing. 'roster best --help' says what the
+best row is. A round is one step for each nurse, in the order of the scenario. A
+run makes rounds until one changes nothing, or until it has made as many as
+--rounds allows.
 
-The hard rules are asked first, as for 'roster cost', and the rosters written
-keep them too. To standard error goes a log, each line as soon as it is known:
+The hard rules are checked first, as for 'roster cost', and the rosters written
+keep them too. A log goes to standard error, each line as soon as it is known:
   start 470     what the roster costs before the run
   1 Ann 180     in round 1 Ann's row was replaced: the roster costs 180 now
   1 Bob 20
-  round 1 20    what it costs when the round is over
+  round 1 20    what it costs at the end of the round
   2 Ann 0
   round 2 0
   round 3 0
   settled 0     how the run ended, and what the rosters written cost
 The last line begins with one of two words:
-  settled  the last round changed nothing: for no nurse is there a cheaper row
-           while the rows of the others stay. More rounds would change nothing.
+  settled  the last round changed nothing: no nurse has a cheaper row while the
+           rows of the others stay. More rounds would change nothing.
   stopped  all rounds were made, and the last one still changed something, or
            there was none to make. More rounds may make the rosters cheaper.
 
-With --from V the weeks 0 to V - 1 are frozen: each nurse's days in them stay as
-they stand, as where these weeks are published, and so do those of the section
-FIXED. All weeks are read, and count for what the roster costs. Where V is above
-the last week, all stays.
+With --from V, weeks 0 to V - 1 are frozen, for instance because they are
+published: each nurse's days in them stay as they are, and so do those of the
+section FIXED. All weeks are read and count towards the cost. If V is above the
+last week, nothing changes.
 
-With --keep N each day of a nurse that becomes another than in the given roster,
-another shift or off, costs N points more: the roster stays much as it is. Then
-the log begins with a line 'keep N', and its numbers are with these points.
+With --keep N, each day of a nurse that changes from the given roster (to
+another shift, to off, or from off) costs N points more, so that the roster
+stays much as it is. Then the log begins with a line 'keep N', and its numbers
+include these points.
 
 What isn't promised: that these are the best rosters of all, settled or not,
-since two rows changed at once may still save something; how long the run takes.
-For its memory and the greatest number of steps for a nurse see 'roster sizes'.
+since changing two rows at once may still save something; how long the run
+takes. For its memory and the greatest number of extensions for a nurse, see
+'roster sizes'.
 
 Examples:
   roster improve examples/ward.txt > better.txt
@@ -160,41 +162,42 @@ Examples:
 The files are read one after another, in the order given. Without a file, the
 texts are read from standard input.";
 
-pub(crate) const BOUND: &str = "Write a number that no roster costs less than";
+pub(crate) const BOUND: &str = "Write a lower bound on every roster's cost";
 
 pub(crate) const BOUND_HELP: &str =
-    "How good a roster can get. Two lines are written, what the roster costs, and a
-number that no roster costs less than, however it is made:
+    "How good a roster can get. Two lines are written: what the roster costs, and a
+lower bound, a number that no roster costs less than, however it is made:
   roster 3150
   bound 750
-So at most the difference can still be saved. The bound is for all rosters of
+So at most the difference can still be saved. The bound holds for all rosters of
 the instance that keep the hard rules. There may be none that costs so little.
 
-The hard rules are asked first, as for 'roster cost'. To standard error goes a
-log, each line as soon as it is known:
+The hard rules are checked first, as for 'roster cost'. A log goes to standard
+error, each line as soon as it is known:
   start 3150     what the roster costs
   round 72 750   the bound that round 72 found. A round that finds no greater one
                  has no line.
 A round takes each nurse once, as a round of 'roster improve' does. More rounds
-mostly find a greater bound, but not always. With --rounds 0 the bound is 0.
-Where it comes to be what the roster costs, the run ends: no roster of these is
+usually find a greater bound, but not always. With --rounds 0 the bound is 0. If
+the bound reaches what the roster costs, the run ends: none of these rosters is
 cheaper.
 
-With --nodes N the rosters are then parted, N times at most: those in which a
-nurse does a certain choice on a day, and those in which she doesn't. The bound
-is the least of the bounds of the parts, and the part that has it is parted next.
-The log numbers this as further rounds.
+With --nodes N the run then grows a tree, with at most N branchings. Its first
+node holds all rosters. A branching divides those of a node into two nodes:
+those in which a nurse makes a certain choice on a day, and those in which she
+doesn't. The bound is the least of the bounds of the leaves, and the leaf that
+has it is divided next. The log numbers the branchings as further rounds.
 
-With --from V the weeks 0 to V - 1 are frozen: the bound is for those rosters in
-which each nurse's days in them, and those of the section FIXED, are as they
-stand. Where V is above the last week, that is the given roster alone.
+With --from V, weeks 0 to V - 1 are frozen: the bound holds for those rosters in
+which each nurse's days in them, and those of the section FIXED, are as given.
+If V is above the last week, that is the given roster alone.
 
-With --keep N each day of a nurse that becomes another than in the given roster,
-another shift or off, costs N points more, and the bound is for what rosters
-cost with these points. Then the log begins with a line 'keep N'.
+With --keep N, each day of a nurse that changes from the given roster (to
+another shift, to off, or from off) costs N points more, and the bound is for
+what rosters cost with these points. Then the log begins with a line 'keep N'.
 
 What isn't promised: how near the bound is to the cheapest roster; how long the
-run takes. For its memory and the greatest number of steps for a nurse see
+run takes. For its memory and the greatest number of extensions for a nurse, see
 'roster sizes'.
 
 Examples:
@@ -207,64 +210,66 @@ The files are read one after another, in the order given. Without a file, the
 texts are read from standard input.";
 
 pub(crate) const NODE_COUNT: &str =
-    "After the rounds the run parts the rosters so often at most, 0 to 10000";
+    "After the rounds the run makes at most N branchings, 0 to 10000";
 
 pub(crate) const SEARCH_COUNT: &str =
-    "Apart from the first settling the run takes so many searches at most, 0 to 10000000; if it is \
-     not given, 400 for each nurse, and 20000 at least";
+    "Apart from the first descent the run makes at most N searches, 0 to 10000000; if it is not \
+     given, 400 for each nurse, and 20000 at least";
 
-pub(crate) const SEED_NUMBER: &str =
-    "What the random numbers of the run begin with, 0 to 4294967295";
+pub(crate) const SEED_NUMBER: &str = "The seed of the run's random numbers, 0 to 4294967295";
 
-pub(crate) const KICKS_ALONE: &str = "Make kicks alone, and no fade";
+pub(crate) const KICKS_ALONE: &str = "Make only kicks, and no fade";
 
 pub(crate) const POLISH: &str = "Make the rosters much cheaper, and write them";
 
 pub(crate) const POLISH_HELP: &str =
-    "A roster is settled where no nurse has a cheaper row while the others keep
-theirs. 'roster improve' ends there, if its rounds are enough. This command
-settles the roster too. Then it makes a fade, unless --kicks is given, and
-kicks, as long as searches are left.
-  fade  Nurse by nurse, in pass after pass, the best rows by prices that turn
-        from those of 'roster bound' into the true ones. Most rows change.
+    "A roster is settled if no nurse has a cheaper row while the others keep theirs.
+'roster improve' ends there, if its rounds are enough. This command begins with
+such a descent too: rounds until the roster is settled. Then it makes a fade,
+unless --kicks is given, and kicks, as long as searches are left.
+  fade  Pass after pass, each nurse gets the best row by prices that go from the
+        dual prices of 'roster bound' to what cover really costs. Most rows
+        change.
   kick  One to three nurses get the best rows by other prices, on the days of
         one to four weeks.
-After a fade and after each kick the roster is settled again. Where it settles,
-keeps the hard rules, and is no dearer than before, it stays; else, also where
-no search is left, the one from before comes back.
+A fade and each kick end with another descent. If the roster settles, keeps the
+hard rules and is no dearer than before, it stays; otherwise, and also if no
+search is left, the one from before comes back.
 
-The hard rules are asked first, as for 'roster cost', and the rosters written
-keep them too. To standard error goes a log, each line as soon as it is known:
+The hard rules are checked first, as for 'roster cost', and the rosters written
+keep them too. A log goes to standard error, each line as soon as it is known:
   start 3150     what the roster costs before the run
-  fade 770       the fade stayed: it costs 770 now. A fade that doesn't stay has
-                 no line.
+  fade 770       the fade stayed: the roster costs 770 now. A fade that doesn't
+                 stay has no line.
   kick 85 765    kick 85 made it cheaper: it costs 765 now. A kick that doesn't
                  make it cheaper has no line.
   settled 765    what the rosters written cost. They are settled.
-In place of 'settled' stands 'stopped' where the first settling was not at its
-end after 1,000,000 rounds, and neither the fade nor a kick stayed.
+The last line begins with 'stopped' instead of 'settled' if the first descent
+was not at its end after 1,000,000 rounds, and neither the fade nor a kick
+stayed.
 
-A search is one for the best row of a nurse. The first settling takes as many as
-it needs, in up to 1,000,000 rounds. After it the run takes at most as many as
---searches allows: up to a third of them to find prices; of the others nearly
-all for the fade, if it needs so many, or about a quarter where they are too few
-for 25 of each nurse; and what is left for kicks.
-With --kicks it is up to a half to find prices, and the others for kicks. With
---searches 0 there is neither. The same texts, --searches, --seed, --kicks and
+A search is one for the best row of a nurse. The first descent makes as many as
+it needs, in up to 1,000,000 rounds. After it the run makes at most as many as
+--searches allows: up to a third of them to find dual prices; of the others
+nearly all for the fade, if it needs that many, or about a quarter if they are
+too few for 25 for each nurse; and what is left for kicks. With --kicks it is up
+to a half to find dual prices, and the others for kicks. With --searches 0 there
+is neither a fade nor a kick. The same texts, --searches, --seed, --kicks and
 --from give the same rosters. It pays to try several seeds. A run that is ended
-by Ctrl-C leaves no rosters, as they are written at its end.
+by Ctrl-C leaves no rosters, since they are written at its end.
 
-With --from V the weeks 0 to V - 1 are frozen: each nurse's days in them stay as
-they stand, and so do those of the section FIXED. All weeks are read, and count
-for what the roster costs. Where V is above the last week, all stays.
+With --from V, weeks 0 to V - 1 are frozen: each nurse's days in them stay as
+they are, and so do those of the section FIXED. All weeks are read and count
+towards the cost. If V is above the last week, nothing changes.
 
-With --keep N each day of a nurse that becomes another than in the given roster,
-another shift or off, costs N points more: the roster stays much as it is. Then
-the log begins with a line 'keep N', and its numbers are with these points.
+With --keep N, each day of a nurse that changes from the given roster (to
+another shift, to off, or from off) costs N points more, so that the roster
+stays much as it is. Then the log begins with a line 'keep N', and its numbers
+include these points.
 
 What isn't promised: how cheap the rosters get, for which see 'roster bound';
-how long the run takes. For its memory and the greatest number of steps for a
-nurse see 'roster sizes'.
+how long the run takes. For its memory and the greatest number of extensions for
+a nurse, see 'roster sizes'.
 
 Examples:
   roster polish examples/ward.txt > better.txt
@@ -279,55 +284,57 @@ pub(crate) const PLAN: &str = "Look for rosters that keep the hard rules, and wr
 
 pub(crate) const PLAN_HELP: &str =
     "Looks for a roster that keeps the hard rules, from whatever solutions are given.
-They may be empty, miss minimums, have forbidden successions, or let a nurse
-work on a day of absence, as where weeks aren't planned yet, or a nurse has
-fallen ill. Refused as ever are a second shift on a day, and a skill that the
-nurse lacks.
+They may be empty, fall short of minimums, have forbidden successions, or let a
+nurse work on a day of absence: perhaps weeks aren't planned yet, or a nurse has
+fallen ill. As always, a second shift on a day and a skill that the nurse lacks
+are refused.
 
-There has to be a solution for each week. Where the texts are refused with
-'expected SOLUTION', since there is no roster yet, give one more file with empty
-ones, each with its week and the scenario's name:
+There has to be a solution for each week. If the texts are refused with
+'expected SOLUTION' because there is no roster yet, give one more file with
+empty ones, each with its week and the scenario's name:
   SOLUTION 0 ward12 ASSIGNMENTS = 0
   SOLUTION 1 ward12 ASSIGNMENTS = 0
 
-Where the given roster breaks a hard rule, the run gives all nurses new rows in
-the days that may change, whatever is given there: fade after fade, until no
-minimum is missed or no search is left. Then it settles the roster and polishes
-it as 'roster polish' does, with the searches that are left. The rosters written
+If the given roster breaks a hard rule, the run gives all nurses new rows on the
+days that may change, whatever is given there: fade after fade, until every
+minimum is met or no search is left. Then it settles the roster and polishes it
+as 'roster polish' does, with the searches that are left. The rosters written
 keep all hard rules.
 
-To standard error goes a log, once such a roster is found:
-  start 61     how many nurses the minimums miss in the given roster, where
-               absent ones don't count
+A log goes to standard error, once such a roster is found:
+  start 61     how many nurses the given roster lacks to the minimums, without
+               counting absent ones
   fade 770     from this line on as for 'roster polish'
   kick 85 765
   settled 765  what the rosters written cost
-Where none is found within the searches, nothing is written, and the status is 1.
-Of the given roster and those with which the fades ended, the nearest misses the
-fewest nurses; one line says which hard rule it breaks first:
+If none is found within the searches, no roster is written, and the status is 1.
+Of the given roster and those with which the fades ended, the nearest is the one
+that lacks the fewest nurses; one line says which hard rule it breaks first:
   not found: H2 week 1 Tue Early Nurse: 0 of 1
-It doesn't mean that there is none. More searches or another seed may find one.
+That doesn't mean that there is none. More searches or another seed may find
+one.
 
 A search is one for the best row of a nurse. To find the roster, and then for
-the fade and the kicks, the run takes at most as many as --searches allows. The
-first settling takes as many as it needs, in up to 1,000,000 rounds. The same
+the fade and the kicks, the run makes at most as many as --searches allows. The
+first descent makes as many as it needs, in up to 1,000,000 rounds. The same
 texts, --searches, --seed and --from give the same rosters. It pays to try
-several seeds. A run that is ended by Ctrl-C leaves no rosters, as they are
+several seeds. A run that is ended by Ctrl-C leaves no rosters, since they are
 written at its end.
 
-With --from V the weeks 0 to V - 1 are frozen: each nurse's days in them stay as
-they stand, and so do those of the section FIXED. All weeks are read, and count
-for what the roster costs. Where V is above the last week, all stays. Where the
-days that stay break a hard rule by themselves, that is told, and no roster is
-looked for.
+With --from V, weeks 0 to V - 1 are frozen: each nurse's days in them stay as
+they are, and so do those of the section FIXED. All weeks are read and count
+towards the cost. If V is above the last week, nothing changes. If the days that
+stay break a hard rule by themselves, one line says so, and no roster is looked
+for.
 
-With --keep N each day of a nurse that becomes another than in the given roster,
-another shift or off, costs N points more: the roster stays much as it is. Then
-the log begins with a line 'keep N', and its numbers are with these points.
+With --keep N, each day of a nurse that changes from the given roster (to
+another shift, to off, or from off) costs N points more, so that the roster
+stays much as it is. Then the log begins with a line 'keep N', and its numbers
+include these points.
 
-What isn't promised: that a roster is found where there is one; how cheap the
+What isn't promised: that a roster is found if there is one; how cheap the
 rosters get, for which see 'roster bound'; how long the run takes. For its
-memory and the greatest number of steps for a nurse see 'roster sizes'.
+memory and the greatest number of extensions for a nurse, see 'roster sizes'.
 
 Examples:
   roster plan examples/ward.txt > new.txt
@@ -342,10 +349,10 @@ texts are read from standard input.";
 pub(crate) const WEEK_AND_DAY: &str =
     "The day of the shift: the number of its week, from 0, and Mon to Sun, as in 1:Wed";
 
-pub(crate) const SHIFT_NAME: &str = "The shift of this name in the scenario, letter for letter";
+pub(crate) const SHIFT_NAME: &str = "The shift's name in the scenario, letter for letter";
 
 pub(crate) const SKILL_NAME: &str =
-    "The skill of this name in the scenario; if it is not given, any that the nurse has";
+    "The skill's name in the scenario; if it is not given, any that the nurse has";
 
 pub(crate) const WHO: &str = "Write who may take a shift, and what the roster costs then";
 
@@ -354,30 +361,32 @@ pub(crate) const WHO_HELP: &str =
 rows of the others stay as they are:
   Ann 1250 changed 2
 says that the roster costs 1250 with the best row of Ann's that has the shift,
-and that this row is another choice than her present one on 2 days. She may take
-it where she has such a row: one with the skill on each day, with no forbidden
-succession and no work in an absence, and with which no minimum is missed that
-was met. The best is the first of the cheapest, as for 'roster best'.
+and that this row has another choice than her present one on 2 days. She may
+take the shift if she has such a row: one with no skill that she lacks, no
+forbidden succession and no work in an absence, and with which every minimum
+that was met is met still. The best is the first of the cheapest, as for 'roster
+best'.
 
-The roster may miss minimums. What absent nurses work in it doesn't count. Then a
-nurse who is missed counts 1000000 in the choice of the row, so that it fills
-other gaps where it can, and each line says how many are missed with it:
+The roster may fall short of minimums. What absent nurses work in it doesn't
+count. If it falls short, each nurse lacking counts 1000000 in the choice of the
+row, so that the row fills other gaps if it can, and each line says how many are
+lacking with it:
   Ann 1250 changed 2 missed 0
-Who is needed where she works isn't told: her shift would be missed then. First
-stand those with the fewest missed, of these the cheapest first, and of equally
-cheap ones who comes first in the scenario. Where nobody may take the shift,
-nothing is written.
+A nurse who is needed where she works isn't listed: her shift would fall short
+then. The first lines are those with the fewest lacking, of these the cheapest
+first, and of equally cheap ones in the order of the scenario. If nobody may
+take the shift, nothing is written.
 
-Refused as ever are a second shift on a day, and a skill that the nurse lacks.
+As always, a second shift on a day and a skill that the nurse lacks are refused.
 
-With --from V the weeks 0 to V - 1 are frozen: the nurses' days in them stay as
-they stand, and so do those of the section FIXED; where they break a hard rule,
-that is told. All weeks are read, and count for what the roster costs. Where V
-is above the last week, all stays.
+With --from V, weeks 0 to V - 1 are frozen: the nurses' days in them stay as
+they are, and so do those of the section FIXED; if they break a hard rule, one
+line says so. All weeks are read and count towards the cost. If V is above the
+last week, nothing changes.
 
 What isn't promised: that no better roster has the shift, since the others' rows
-stay; how long it takes. For its memory and its greatest number of steps for a
-nurse see 'roster sizes'.
+stay; how long it takes. For its memory and the greatest number of extensions
+for a nurse, see 'roster sizes'.
 
 Examples:
   roster who --day 1:Wed --shift Early examples/ward.txt

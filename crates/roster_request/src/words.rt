@@ -2,7 +2,7 @@
 
 ghost use Rattle.std.specs.Prelude.{◌≡◌, ◌≢◌, ◌≤◌, [], Some, codes, IfOk, IfErr, IfSome, OnOk, IsSomeAnd, map, option_map, string_bytes};
 ghost use Rattle.clap.specs.Words.{fault_of, first_of, found_of, kind_of, rows_of, subcommand_rows_of};
-ghost use Rattle.roster_request.specs.CommandLine.{HasArguments, HasFrom, HasKeep, HasNodes, HasNumber, HasRounds, HasSearches, HasSeed, HasText, IsAsked, IsAskedIn, IsFlag, IsGiven, IsInRange, IsNameOf, IsNumberIfGiven, IsNumberOf, IsOneOf, Meets, Refuses, TellsKind, commands, files_in, name_of, program, with_assignment, with_from, with_keep, with_nodes, with_nurse, with_rounds, with_searches};
+ghost use Rattle.roster_request.specs.CommandLine.{HasArguments, HasFrom, HasKeep, HasNodes, HasNumber, HasRounds, HasSearches, HasSeed, HasText, IsAsked, IsAskedIn, IsFlag, IsGiven, IsInRange, IsNameOf, IsNumberIfGiven, IsNumberOf, IsOneOf, Meets, Refuses, HasKindOf, commands, files_in, name_of, program, with_assignment, with_from, with_keep, with_nodes, with_nurse, with_rounds, with_searches};
 ghost use Rattle.roster_request.specs.Limits.{most_from, most_keep, most_nodes, most_rounds, most_searches};
 
 use crate::program::{
@@ -18,9 +18,10 @@ use std::convert::AsStr;
 
 /// What the words of a command line ask for. The program's name is the first of them.
 pub fn request_of<S: AsStr>(alloc: Global, words: &[S]) -> Result<Request, CliFault>
-    // The command with its arguments, and the files, are those that clap's matches give for the words.
+    // The command with its arguments and the files are those that clap's matches give for the words.
     ensures request { IfOk result (IsAsked (map S.text words.now)) }
-    // The rounds, the partings and the searches of a run, the first week that may change, and the points are within their limits.
+    // The rounds, the branchings and the searches of a run, the first week that may change, and the points
+    // are within their limits.
     ensures range { IfOk result (λ r. IsInRange r.command) }
     ensures faultless { OnOk result (fault_of program (map S.text words.now) ≡ []) }
     ensures refusal { IfErr result (Refuses (map S.text words.now)) }
@@ -121,7 +122,7 @@ fn command_in(alloc: Global, name: &str, given: &ArgMatches<'_>) -> Result<Comma
     }
 }
 
-/// The text of an argument that `clap` asks for.
+/// The text of a required argument.
 fn given_text(alloc: Global, given: &ArgMatches<'_>, name: &str) -> Result<String, AllocError>
     requires { IsGiven name.now (rows_of (found_of given.now)) }
     ensures { IfOk result (λ text. first_of name.now (rows_of (found_of given.now)) ≡ Some
@@ -133,7 +134,7 @@ fn given_text(alloc: Global, given: &ArgMatches<'_>, name: &str) -> Result<Strin
     String::from_str(alloc, text)
 }
 
-/// The text of an argument, where it is given.
+/// The text of an argument, if it is given.
 fn text_if_given(
     alloc: Global,
     given: &ArgMatches<'_>,
@@ -157,7 +158,7 @@ fn rounds_of(given: &ArgMatches<'_>) -> u16
     number_of(given, ROUNDS) as u16
 }
 
-/// How often a floor may part the rosters.
+/// How many branchings a lower bound may make.
 fn nodes_of(given: &ArgMatches<'_>) -> u16
     requires { HasNodes (rows_of (found_of given.now)) }
     ensures nodes { IsNumberOf (codes "nodes") result (rows_of (found_of given.now)) }
@@ -166,7 +167,7 @@ fn nodes_of(given: &ArgMatches<'_>) -> u16
     number_of(given, NODES) as u16
 }
 
-/// The number of searches, where one is given.
+/// The number of searches, if one is given.
 fn searches_of(given: &ArgMatches<'_>) -> Option<u32>
     requires { HasSearches (rows_of (found_of given.now)) }
     ensures searches { IsNumberIfGiven (codes "searches") result (rows_of (found_of given.now)) }
@@ -175,7 +176,7 @@ fn searches_of(given: &ArgMatches<'_>) -> Option<u32>
     given.get_one::<u32>(SEARCHES)
 }
 
-/// What the random numbers begin with.
+/// The seed of the random numbers.
 fn seed_of(given: &ArgMatches<'_>) -> u32
     requires { HasSeed (rows_of (found_of given.now)) }
     ensures { IsNumberOf (codes "seed") result (rows_of (found_of given.now)) }
@@ -183,7 +184,7 @@ fn seed_of(given: &ArgMatches<'_>) -> u32
     number_of(given, SEED)
 }
 
-/// Whether kicks alone are asked for.
+/// Whether only kicks are asked for.
 fn kicks_alone_of(given: &ArgMatches<'_>) -> bool
     ensures { IsFlag (codes "kicks") result (rows_of (found_of given.now)) }
 {
@@ -199,7 +200,7 @@ fn from_of(given: &ArgMatches<'_>) -> u16
     number_of(given, FROM) as u16
 }
 
-/// How many points a day costs that becomes another.
+/// How many points each day costs that changes from the given roster.
 fn keep_of(given: &ArgMatches<'_>) -> u16
     requires { HasKeep (rows_of (found_of given.now)) }
     ensures keep { IsNumberOf (codes "keep") result (rows_of (found_of given.now)) }
@@ -231,24 +232,24 @@ fn files_of(alloc: Global, given: &ArgMatches<'_>) -> Result<Vec<String>, AllocE
     Ok(files)
 }
 
-/// Why words are no request that clap refuses by this error.
+/// Why words are no request, if `clap` refuses them with this error.
 fn refusal<S: AsStr>(alloc: Global, words: &[S], error: &clap::Error) -> CliFault
-    ensures kind { TellsKind (kind_of error.now) result }
+    ensures kind { HasKindOf (kind_of error.now) result }
     ensures text { HasText result }
 {
     if error.kind() == ErrorKind::OutOfMemory {
         return CliFault::Memory;
     }
-    match told(alloc, words, error) {
+    match message(alloc, words, error) {
         Err(_) => CliFault::Memory,
         Ok(text) if error.use_stderr() => CliFault::Usage(text),
         Ok(text) => CliFault::Help(text),
     }
 }
 
-/// What is told of an error. `clap` takes a negative number for an unknown option: in place of that is told that the number isn't taken.
-/// (Of a command that allows negative numbers `clap` doesn't state its matches.)
-fn told<S: AsStr>(alloc: Global, words: &[S], error: &clap::Error) -> Result<String, AllocError>
+/// The text of an error. `clap` takes a negative number for an unknown option; then the text says instead
+/// that the number isn't taken. (`clap` doesn't state the matches of a command that allows negative numbers.)
+fn message<S: AsStr>(alloc: Global, words: &[S], error: &clap::Error) -> Result<String, AllocError>
     ensures { IfOk result (λ text. string_bytes text ≢ []) }
 {
     if error.kind() != ErrorKind::UnknownArgument {
@@ -273,7 +274,7 @@ fn refused<'a>(alloc: Global, words: &'a [String]) -> Result<Option<clap::Error>
     }
 }
 
-/// The words, but each negative number in one with the option before it, as in `--from=-1`.
+/// The words, with each negative number joined to the option before it, as in `--from=-1`.
 fn with_numbers_joined<S: AsStr>(alloc: Global, words: &[S]) -> Result<Vec<String>, AllocError> {
     let mut joined: Vec<String> = Vec::with_capacity(alloc, words.len())?;
     let mut before = "";
@@ -301,7 +302,8 @@ fn is_negative(word: &str) -> bool {
     matches!(word.as_bytes(), [b'-', b'0'..=b'9', ..])
 }
 
-/// The text of an error. `clap` promises none, so where it is empty the examples stand for it.
+/// The text of an error. `clap` doesn't promise that there is one; if it is empty, the examples take its
+/// place.
 fn text_of(alloc: Global, error: &clap::Error) -> Result<String, AllocError>
     ensures { IfOk result (λ text. string_bytes text ≢ []) }
 {

@@ -1,4 +1,4 @@
--- What the steps of a run count on the meter, and that the workspace still fits.
+-- What the steps of a run count on the meter, and that the workspace keeps fitting.
 use Rattle.std.proofs.Common.{◌≡◌, ◌∙◌, ◌+◌, ◌*◌, ◌<◌, ◌≤◌, ◌&&◌, ℕ, ap, ap₂, arith, length, map, true}
 use Rattle.std.proofs.lemmas.Bool.{eq-eqb}
 use Rattle.std.specs.List.{range_with_len}
@@ -10,18 +10,18 @@ use Rattle.roster_instance.specs.Sizes.{choice_count, greatest_of, state_count}
 use Rattle.roster_laws.specs.Greatest.{extension_count, extensions_in, greatest_extension_count}
 use Rattle.roster_laws.proofs.GreatestLemmas.{greatest_extensions}
 use Rattle.roster_offers.specs.Workspaces.{fits_space}
-use Rattle.roster_row.specs.Known.{IsKnown}
+use Rattle.roster_row.specs.Recalled.{RecallsSearches}
 use Rattle.roster_rounds.specs.Spaces.{fits_run}
 use Rattle.roster_rounds.specs.declared.space.RunSpace.{RunSpace}
 
--- a workspace and what is known of the last searches fit their case
-pub fits_still : {T : Type 0} (c : Meaning) (space : RunSpace T) → fits_space c space.workspace ≡ true → IsKnown c space.last → fits_run c space ≡ true
-fits_still c space fits known =
-    let nurses = eq-eqb (length space.last.costs.items) (nurse_count c) known.nurses in
-    let days = eq-eqb (length space.last.prices.items) (nurse_count c * day_count c) known.days in
+-- a workspace, and what is known from the last searches, still fit their case
+pub fits_still : {T : Type 0} (c : Meaning) (space : RunSpace T) → fits_space c space.workspace ≡ true → RecallsSearches c space.last → fits_run c space ≡ true
+fits_still c space fits recalls =
+    let nurses = eq-eqb (length space.last.costs.items) (nurse_count c) recalls.nurses in
+    let days = eq-eqb (length space.last.prices.items) (nurse_count c * day_count c) recalls.days in
     ap₂ ◌&&◌ fits (ap₂ ◌&&◌ nurses days)
 
--- ---- the steps of the first nurses of a round; the case is known by an equation
+-- ---- the steps of the first nurses of a round, for a case that is given by an equation
 
 module _ (c now : Meaning) (same : now ≡ c) (n start meter : ℕ) (so_far : meter ≤ start + n * greatest_extension_count c) (inside : n < nurse_count c) where
   step_counts : extension_count now n ≤ greatest_extension_count c
@@ -57,7 +57,7 @@ module _ (c now : Meaning) (same : now ≡ c) (made start meter : ℕ) (so_far :
 
 -- ---- a new meter
 
--- the limits of a case leave few extensions to a search
+-- the limits of a case bound the extensions of a search
 pub few_extensions : (c : Meaning) (n : ℕ) → n < nurse_count c → week_count c ≤ most_weeks → HasFewStates c → ((m : ℕ) → choice_count c m ≤ 1 + most_shifts * most_skills)
     → extension_count c n ≤ most_states * most_days * (1 + most_shifts * most_skills)
 unfolding extension_count
@@ -65,7 +65,7 @@ few_extensions c n inside weeks states choices =
     mul-le (state_count c n * day_count c) (choice_count c n) (most_states * most_days) (1 + most_shifts * most_skills)
     (mul-le (state_count c n) (day_count c) most_states most_days (states n inside) (omega (arith, weeks))) (choices n)
 
--- and so to some searches for each nurse
+-- and so those of a number of searches for each nurse
 pub few_in_all : (c : Meaning) (rounds most : ℕ) → rounds ≤ most → nurse_count c ≤ most_nurses → (greatest_extension_count c ≤ most_states * most_days * (1 + most_shifts * most_skills))
     → extensions_in c rounds ≤ most * (most_nurses * (most_states * most_days * (1 + most_shifts * most_skills)))
 few_in_all c rounds most within nurses few =
@@ -78,7 +78,7 @@ counted_within c made rounds start meter within so_far =
     let all = nurse_count c * greatest_extension_count c in
     omega (arith, so_far, mul-le made all rounds all within (omega arith))
 
--- ---- the greatest number of a nurse, when all nurses are looked at
+-- ---- the greatest of a nurse's numbers, once all nurses have been considered
 
 pub all_extensions : (c : Meaning) (greatest n : ℕ) → greatest ≡ greatest_of (map (extension_count c) (range_with_len 0 n)) → n ≡ nurse_count c → greatest ≡ greatest_extension_count c
 unfolding greatest_extension_count

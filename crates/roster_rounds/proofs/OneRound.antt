@@ -22,7 +22,7 @@ change_line c k n next name total e f = rw (e, f) refl
 pub round_line : (c : Meaning) (k : ℕ) (r : Rows) (total : ℕ) → total ≡ penalty c r → line (codes "round " ++ decimal k) total ≡ line_of c (entry (round_done k) r)
 round_line c k r total e = rw e refl
 
--- what a step says of the change
+-- a step that reports no change left the roster as it was
 pub unchanged : (b same : Bool) → b ≡ not same → not b ≡ true → same ≡ true
 unchanged b same e h = not-false same (sym e ∙ not-true b h)
 
@@ -101,7 +101,7 @@ module _ {W : Type 0} (contents : W → Option (List ℕ)) (c : Meaning) (best :
       (subst (λ m. Sends contents old mid before sent (text_of c (changes c best k (range_with_len 0 m) r))) all p.sends)
       (BreaksAmong-one contents c (entry (round_done k) (round c best r)) now mid new sent fault last (subst (λ s. BreaksIn contents mid new sent (line_of c (entry (round_done k) s)) fault) last q))
 
--- ---- the lines of one word
+-- ---- lines of one word
 
 pub start_line : (c m : Meaning) (r : Rows) (total : ℕ) → m ≡ c → total ≡ penalty c r → line (start_word m) total ≡ line_of c (entry started r)
 start_line c m r total same e = ap (λ (x : Meaning). line (start_word x) total) same ∙ ap (line (start_word c)) e

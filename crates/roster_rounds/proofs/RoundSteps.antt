@@ -7,7 +7,7 @@ use Rattle.roster_rules.specs.Improver.{BestRows, round_log, Entry, entry, chang
 use Rattle.roster_instance.specs.Meaning.{Meaning, nurse_count}
 use Rattle.roster_instance.specs.Rosters.{Rows}
 
--- ---- a nurse more
+-- ---- one nurse more
 
 pub fold_more : (c : Meaning) (best : BestRows) (r : Rows) (n : ℕ) → fold (step c best) r (range_with_len 0 (n + 1)) ≡ step c best (fold (step c best) r (range_with_len 0 n)) n
 fold_more c best r n = ap (fold (step c best) r) (range_with_len_more n) ∙ fold-append (step c best) r (range_with_len 0 n) (n ∷ [])
@@ -25,7 +25,7 @@ changes_more : (c : Meaning) (best : BestRows) (k : ℕ) (r : Rows) (n : ℕ)
     changes c best k (range_with_len 0 (n + 1)) r ≡ changes c best k (range_with_len 0 n) r ++ (cond (same_rows next now) [] (entry (changed k n) next ∷ []) ++ [])
 changes_more c best k r n = ap (λ l. changes c best k l r) (range_with_len_more n) ∙ changes-append c best k (range_with_len 0 n) (n ∷ []) r
 
--- its step changed the roster
+-- the nurse's step changed the roster
 pub changes_more_changed : (c : Meaning) (best : BestRows) (k : ℕ) (r now next : Rows) (n : ℕ) → now ≡ fold (step c best) r (range_with_len 0 n) → next ≡ step c best now n → same_rows next now ≡ false
     → changes c best k (range_with_len 0 (n + 1)) r ≡ changes c best k (range_with_len 0 n) r ++ entry (changed k n) next ∷ []
 changes_more_changed c best k r now next n now_is next_is differs =
@@ -33,7 +33,7 @@ changes_more_changed c best k r now next n now_is next_is differs =
     (subst (λ now. (cond (same_rows (step c best now n) now) [] (entry (changed k n) (step c best now n) ∷ []) ++ []) ≡ entry (changed k n) next ∷ []) now_is
     (subst (λ made. (cond (same_rows made now) [] (entry (changed k n) made ∷ []) ++ []) ≡ entry (changed k n) next ∷ []) next_is (rw differs refl)))
 
--- and did not
+-- the nurse's step changed nothing
 pub changes_more_same : (c : Meaning) (best : BestRows) (k : ℕ) (r now next : Rows) (n : ℕ) → now ≡ fold (step c best) r (range_with_len 0 n) → next ≡ step c best now n → same_rows next now ≡ true
     → changes c best k (range_with_len 0 (n + 1)) r ≡ changes c best k (range_with_len 0 n) r
 changes_more_same c best k r now next n now_is next_is same =

@@ -59,7 +59,7 @@ module _ {W : Type 0} (contents : W → Option (List ℕ)) (c : Meaning) (best :
       → total ≡ penalty c (run c best rounds r).roster → record_of is_settled made count total ≡ end_of c best rounds r
   outcome_from is_settled made count total e f g h = rw (e, f, g, h) refl
 
-  -- a fault in the whole log
+  -- the log stops at a fault
   log_stops : (now : Rows) (new : Watched W) (fault : WriteFault) → BreaksAmong contents c (log_of c best rounds r) now old new 0 fault → LogStops contents c best rounds r now old new (LogFailed (sent_of fault))
   log_stops now new fault p = record {
     sent = p.sent;
@@ -86,7 +86,7 @@ module _ {W : Type 0} (contents : W → Option (List ℕ)) (c : Meaning) (best :
         few = omega arith;
       }
 
-  -- a fault in what comes next
+  -- a fault in the lines that come next
   breaks : (now after : Rows) (mid new : Watched W) (sent count made : ℕ) (ahead rest : List Entry) (fault : WriteFault) → Going contents c best rounds r now old mid sent count made
       → entries_from c best (made + 1) (rounds - made) now ≡ ahead ++ rest → BreaksAmong contents c ahead after mid new sent fault → LogStops contents c best rounds r after old new (LogFailed (sent_of fault))
   breaks now after mid new sent count made ahead rest fault p next q =

@@ -17,7 +17,7 @@ pub text_of-one : (c : Meaning) (e : Entry) → text_of c (e ∷ []) ≡ line_of
 text_of-one c e = append-nil (line_of c e)
 
 module _ {W : Type 0} (contents : W → Option (List ℕ)) (c : Meaning) where
-  -- sent these entries, and then those
+  -- the entries xs were sent, and then ys
   pub Sends-entries : (old mid new : Watched W) (before between after : ℕ) (xs ys : List Entry)
       → Sends contents old mid before between (text_of c xs) → Sends contents mid new between after (text_of c ys) → Sends contents old new before after (text_of c (xs ++ ys))
   Sends-entries old mid new before between after xs ys p q = rw (text_of-append c xs ys) (Sends-append contents old mid new before between after (text_of c xs) (text_of c ys) p q)
@@ -45,7 +45,7 @@ module _ {W : Type 0} (contents : W → Option (List ℕ)) (c : Meaning) where
         counted = p.counted;
       }
 
-  -- stopped among these entries, so also where more follow
+  -- stopped among these entries, and so also if more follow
   pub BreaksAmong-front : (xs ys : List Entry) (roster : Rows) (old new : Watched W) (before : ℕ) (fault : WriteFault) → BreaksAmong contents c xs roster old new before fault
       → BreaksAmong contents c (xs ++ ys) roster old new before fault
   BreaksAmong-front xs ys roster old new before fault p =
@@ -65,7 +65,7 @@ module _ {W : Type 0} (contents : W → Option (List ℕ)) (c : Meaning) where
         counted = p.counted;
       }
 
-  -- sent these entries, and stopped among those
+  -- these entries were sent, and the writer stopped among those after them
   pub BreaksAmong-after : (xs ys : List Entry) (roster : Rows) (old mid new : Watched W) (before between : ℕ) (fault : WriteFault) → Sends contents old mid before between (text_of c xs)
       → BreaksAmong contents c ys roster mid new between fault → BreaksAmong contents c (xs ++ ys) roster old new before fault
   BreaksAmong-after xs ys roster old mid new before between fault sends p =

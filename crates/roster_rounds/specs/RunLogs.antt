@@ -1,4 +1,4 @@
--- The text of a run's log, and a run whose log a writer took, or on which it stopped (our own).
+-- The text of a run's log, and a run whose log a writer took completely or in part (our own).
 use Rattle.std.specs.Prelude.{◌≡◌, ℕ, ◌+◌, ◌<◌, ◌≤◌, List, [], ◌∷◌, ◌++◌, length, flat_map, Option}
 use Rattle.std.specs.List.{range_with_len}
 use Rattle.roster_text.specs.Io.{Sends, StopsAt, Watched, Writes, saturated}
@@ -17,14 +17,22 @@ use Rattle.roster_rounds.specs.declared.outcome.Outcome.{Outcome}
 abbrev pub text_of : Meaning → List Entry → List ℕ
 text_of c entries = flat_map (line_of c) entries
 
--- what is told of a run's end
-abbrev pub told : Outcome → laws.RunEnd
-told outcome = record { is_settled = outcome.settled; rounds = outcome.rounds; changes = outcome.changes; total = outcome.total }
+-- what is reported of a run's end
+abbrev pub run_end : Outcome → laws.RunEnd
+run_end outcome =
+    record {
+      is_settled = outcome.settled;
+      rounds = outcome.rounds;
+      changes = outcome.changes;
+      total = outcome.total;
+    }
 
 -- ---- a writer that stops
 
--- among these entries' lines: all lines of `done` went out, that of `next` not wholly, and the roster is that of `next`
-pub record StopsAmong {W : Type 0} (contents : W → Option (List ℕ)) (c : Meaning) (entries : List Entry) (roster : Rows) (old new : Watched W) (sent : ℕ) : Type 0 where
+-- among the lines of these entries all of `done` went out, the line of `next` did not go out completely, and
+-- the roster is that of `next`
+pub record StopsAmong {W : Type 0} (contents : W → Option (List ℕ)) (c : Meaning) (entries : List Entry)
+    (roster : Rows) (old new : Watched W) (sent : ℕ) : Type 0 where
   pub done : List Entry
   pub next : Entry
   pub rest : List Entry
@@ -34,29 +42,33 @@ pub record StopsAmong {W : Type 0} (contents : W → Option (List ℕ)) (c : Mea
   pub broken : sent < length (text_of c (done ++ next ∷ []))
   pub roster_is : roster ≡ next.roster
 
--- the same in a part of the log; the fault counts from the log's beginning
-pub record BreaksAmong {W : Type 0} (contents : W → Option (List ℕ)) (c : Meaning) (entries : List Entry) (roster : Rows) (old new : Watched W) (before : ℕ) (fault : WriteFault) : Type 0 where
+-- the same for a part of the log; the fault counts from the log's beginning
+pub record BreaksAmong {W : Type 0} (contents : W → Option (List ℕ)) (c : Meaning) (entries : List Entry)
+    (roster : Rows) (old new : Watched W) (before : ℕ) (fault : WriteFault) : Type 0 where
   pub sent : ℕ
   pub stops : StopsAmong contents c entries roster old new sent
   pub counted : fault ≡ WriteFailed (saturated (before + sent))
 
--- the same in a whole log
-pub record LogStops {W : Type 0} (contents : W → Option (List ℕ)) (c : Meaning) (best : BestRows) (rounds : ℕ) (before after : Rows) (old new : Watched W) (fault : LogFault) : Type 0 where
+-- the same for a whole log
+pub record LogStops {W : Type 0} (contents : W → Option (List ℕ)) (c : Meaning) (best : BestRows) (rounds : ℕ)
+    (before after : Rows) (old new : Watched W) (fault : LogFault) : Type 0 where
   pub sent : ℕ
   pub stops : StopsAmong contents c (log_of c best rounds before) after old new sent
   pub counted : fault ≡ LogFailed (saturated sent)
 
--- ---- and one that takes all
+-- ---- a writer that takes everything
 
 -- a round was made, and its lines were sent
-pub record RoundMade {W : Type 0} (contents : W → Option (List ℕ)) (c : Meaning) (best : BestRows) (k : ℕ) (before after : Rows) (old new : Watched W) (sent_before sent : ℕ) (count : ℕ) : Type 0 where
+pub record RoundMade {W : Type 0} (contents : W → Option (List ℕ)) (c : Meaning) (best : BestRows) (k : ℕ)
+    (before after : Rows) (old new : Watched W) (sent_before sent : ℕ) (count : ℕ) : Type 0 where
   pub roster_is : after ≡ round c best before
   pub sends : Sends contents old new sent_before sent (text_of c (round_log c best k before))
   pub counted : count ≡ length (changes c best k (range_with_len 0 (nurse_count c)) before)
   pub few : count ≤ most_nurses
 
 -- a run was made, and its log went out
-pub record Ran {W : Type 0} (contents : W → Option (List ℕ)) (c : Meaning) (best : BestRows) (rounds : ℕ) (before after : Rows) (old new : Watched W) (outcome : Outcome) : Type 0 where
+pub record Ran {W : Type 0} (contents : W → Option (List ℕ)) (c : Meaning) (best : BestRows) (rounds : ℕ)
+    (before after : Rows) (old new : Watched W) (outcome : Outcome) : Type 0 where
   pub roster_is : after ≡ (run c best rounds before).roster
   pub writes : Writes contents old new (text_of c (log_of c best rounds before))
-  pub outcome_is : told outcome ≡ laws.end_of c best rounds before
+  pub outcome_is : run_end outcome ≡ laws.end_of c best rounds before

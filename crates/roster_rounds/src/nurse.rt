@@ -1,4 +1,4 @@
-//! One nurse's row, replaced where that is cheaper.
+//! One nurse's step: the row is replaced if that is cheaper.
 
 ghost use Rattle.std.specs.Prelude.{◌≡◌, ◌+◌, ◌<◌, ◌≤◌, ℕ, true, not};
 ghost use Rattle.roster_bundle.specs.Limits.{greatest_u64};
@@ -8,18 +8,18 @@ ghost use Rattle.roster_rules.specs.Improver.{same_rows, step};
 ghost use Rattle.roster_rules.specs.Penalties.{penalty};
 ghost use Rattle.roster_laws.specs.FrozenDays.{FrozenDaysStay};
 ghost use Rattle.roster_laws.specs.Greatest.{extension_count};
-ghost use Rattle.roster_offers.specs.Workspaces.{SameRoom, fits_space};
-ghost use Rattle.roster_row.specs.Known.{IsKnown};
+ghost use Rattle.roster_offers.specs.Workspaces.{SameCapacity, fits_space};
+ghost use Rattle.roster_row.specs.Recalled.{RecallsSearches};
 
 use crate::outcome::Step;
 use roster_case::Held;
-use roster_offers::{RowTables, Workspace};
+use roster_offers::{SearchesRows, Workspace};
 use roster_row::{Best, LastSearches, best_row, cheaper_row};
 use roster_state::Meter;
 
-/// Puts a nurse's best row from a week on in where the roster's penalty becomes strictly smaller, and else changes nothing. That row
-/// stands in the workspace afterwards, put in or not.
-pub fn step<T: RowTables>(
+/// Puts a nurse's best row from a week on in if that makes the roster's penalty strictly smaller, and
+/// otherwise changes nothing. The workspace shows that row afterwards, whether it was put in or not.
+pub fn step<T: SearchesRows>(
     held: &mut Held,
     nurse: usize,
     from: u16,
@@ -39,16 +39,16 @@ pub fn step<T: RowTables>(
     ensures best { IsBestRow held.old.case from held.old.roster nurse workspace.new.row }
     ensures each_day { meter.old + day_count held.old.case ≤ meter.new }
     ensures counted { meter.new ≤ meter.old + extension_count held.old.case nurse }
-    ensures same_room { SameRoom workspace.old workspace.new }
+    ensures same_capacity { SameCapacity workspace.old workspace.new }
     ensures fits { fits_space held.old.case workspace.new ≡ true }
 {
     let best = best_row(held, nurse, from, workspace, meter);
     put_in_cheaper(held, nurse, best, workspace)
 }
 
-/// The same step, but it makes no search where the nurse's last one tells that no row is cheaper than the present one. What the workspace
-/// shows afterwards is then left as it was.
-pub fn step_unless_known<T: RowTables>(
+/// The same step, without a search if the nurse's last search shows that no row is cheaper than the present
+/// one. The workspace then shows the same row as before.
+pub fn step_or_skip<T: SearchesRows>(
     held: &mut Held,
     nurse: usize,
     from: u16,
@@ -58,7 +58,7 @@ pub fn step_unless_known<T: RowTables>(
 ) -> Step
     requires nurse { nurse < nurse_count held.old.case }
     requires fits { fits_space held.old.case workspace.old ≡ true }
-    requires known { IsKnown held.old.case last.old }
+    requires recalls { RecallsSearches held.old.case last.old }
     requires room { meter.old + extension_count held.old.case nurse ≤ greatest_u64 }
     ensures case { held.new.case ≡ held.old.case }
     ensures roster { held.new.roster ≡ step held.old.case (best_row held.old.case from)
@@ -68,9 +68,9 @@ pub fn step_unless_known<T: RowTables>(
     ensures after { result.after ≡ penalty held.old.case held.new.roster }
     ensures changed { result.changed ≡ not (same_rows held.new.roster held.old.roster) }
     ensures counted { meter.new ≤ meter.old + extension_count held.old.case nurse }
-    ensures same_room { SameRoom workspace.old workspace.new }
+    ensures same_capacity { SameCapacity workspace.old workspace.new }
     ensures fits { fits_space held.old.case workspace.new ≡ true }
-    ensures known { IsKnown held.old.case last.new }
+    ensures recalls { RecallsSearches held.old.case last.new }
 {
     let Some(best) = cheaper_row(held, nurse, from, workspace, last, meter) else {
         let total = held.total();
@@ -83,8 +83,9 @@ pub fn step_unless_known<T: RowTables>(
     put_in_cheaper(held, nurse, best, workspace)
 }
 
-/// Puts the best row that the workspace shows in where the roster's penalty becomes strictly smaller, and else changes nothing.
-fn put_in_cheaper<T: RowTables>(
+/// Puts the best row that the workspace shows in if that makes the roster's penalty strictly smaller, and
+/// otherwise changes nothing.
+fn put_in_cheaper<T: SearchesRows>(
     held: &mut Held,
     nurse: usize,
     best: Best,

@@ -1,4 +1,4 @@
-//! What a step and a run tell.
+//! What a step and a run report.
 
 /// A step: the roster's penalty before and after it, and whether it changed the roster.
 #[derive(Clone, Copy, Debug, PartialEq, Eq)]
@@ -8,8 +8,8 @@ pub struct Step {
     pub changed: bool,
 }
 
-/// How a run ended: whether a round changed nothing, how many rounds were made (one without a change included), how many steps
-/// changed the roster, and the penalty at the end.
+/// How a run ended: whether a round changed nothing, the number of rounds that were made (one without a
+/// change included), the number of steps that changed the roster, and the penalty at the end.
 #[derive(Clone, Copy, Debug, PartialEq, Eq)]
 pub struct Outcome {
     pub settled: bool,

@@ -1,4 +1,4 @@
-//! How much a run counts on its meter at most.
+//! The most that a run counts on its meter.
 
 ghost use Rattle.std.specs.Prelude.{◌≡◌, ◌+◌, ◌*◌, ◌<◌, ◌≤◌};
 ghost use Rattle.roster_bundle.specs.Limits.{greatest_u64};
@@ -7,30 +7,31 @@ ghost use Rattle.roster_instance.specs.Meaning.{nurse_count};
 ghost use Rattle.roster_laws.specs.Greatest.{extension_count, extensions_in, greatest_extension_count};
 
 use roster_instance::Case;
-use roster_offers::most_steps;
+use roster_offers::most_search_extensions;
 
-/// How often a run of so many rounds extends a label at most. A new meter has room for it: `rounds_have_room`.
+/// The most extensions in a run of at most this number of rounds. A new meter can count them:
+/// `rounds_have_room`.
 pub fn most_extensions(case: &Case, rounds: u16) -> u64
     ensures { result ≡ extensions_in case.now rounds }
 {
     rounds as u64 * (case.nurses() as u64 * greatest_extensions(case))
 }
 
-/// How often the search for one nurse extends a label at most.
+/// The most extensions in the search for one nurse.
 pub fn greatest_extensions(case: &Case) -> u64
     ensures greatest { result ≡ greatest_extension_count case.now }
     ensures within { result ≤ most_states * most_days * (1 + most_shifts * most_skills) }
 {
     let mut greatest: u64 = 0;
     for nurse in 0..case.nurses() {
-        greatest = greatest.max(most_steps(case, nurse));
+        greatest = greatest.max(most_search_extensions(case, nurse));
     }
     greatest
 }
 
 // ---- laws, which do nothing
 
-/// A law: no search of a case extends a label more often than the limits allow.
+/// A law: the limits bound the extensions in a search of a case.
 pub fn extensions_are_few(case: &Case)
     ensures { greatest_extension_count case.now ≤ most_states * most_days
         * (1 + most_shifts * most_skills) }
@@ -40,7 +41,7 @@ pub fn extensions_are_few(case: &Case)
     case.nurses();
 }
 
-/// A law: a new meter has room for the search of a nurse.
+/// A law: a new meter can count the search for a nurse.
 pub fn search_has_room(case: &Case, nurse: usize)
     requires { nurse < nurse_count case.now }
     ensures { extension_count case.now nurse ≤ greatest_u64 }
@@ -48,7 +49,7 @@ pub fn search_has_room(case: &Case, nurse: usize)
     extensions_are_few(case);
 }
 
-/// A law: a new meter has room for a run of so many rounds.
+/// A law: a new meter can count a run of this number of rounds.
 pub fn rounds_have_room(case: &Case, rounds: u16)
     ensures { extensions_in case.now rounds ≤ greatest_u64 }
 {

@@ -7,7 +7,7 @@ ghost use Rattle.roster_rules.specs.AllowedRows.{best_row};
 ghost use Rattle.roster_rules.specs.Improver.{round_log};
 ghost use Rattle.roster_laws.specs.FrozenDays.{FrozenDaysStay};
 ghost use Rattle.roster_laws.specs.Greatest.{extensions_in, greatest_extension_count};
-ghost use Rattle.roster_offers.specs.Workspaces.{SameRoom};
+ghost use Rattle.roster_offers.specs.Workspaces.{SameCapacity};
 ghost use Rattle.roster_rounds.specs.RunLogs.{BreaksAmong, LogStops, Ran, RoundMade};
 
 use crate::outcome::Outcome;
@@ -18,15 +18,16 @@ use roster_state::Meter;
 use roster_text::{Watch, WriteFault};
 use std::io::Write;
 
-/// Makes rounds until one changes nothing, or as many as are given. A round is a step for each nurse, in the order of the case. The
-/// frozen days stay as they are, those of the weeks before week `from` and fixed ones. Each line of the log goes out as it is made.
+/// Makes rounds until one changes nothing, or until the given number is made. A round is a step for each
+/// nurse, in the order of the case. The frozen days stay as they are: those of the weeks before week `from`,
+/// and fixed ones. Each line of the log goes out as soon as it is made.
 ///
-/// With a `Workspace` each step is a search. A `RunSpace` takes less time: a nurse whose last search in the run tells that no row is
-/// cheaper isn't searched again.
+/// With a `Workspace` each step is a search. A `RunSpace` takes less time: a nurse isn't searched for again
+/// if the last search for her in the run shows that no row is cheaper.
 ///
 /// # Errors
 ///
-/// The log failed. The roster is the one to which the first line that didn't wholly go out belongs.
+/// The log failed. The roster is the one of the first line that didn't go out completely.
 pub fn improve<W: Write, S: Steps>(
     held: &mut Held,
     rounds: u16,
@@ -44,14 +45,14 @@ pub fn improve<W: Write, S: Steps>(
         rounds held.old.roster held.new.roster log.old log.new) }
     ensures frozen { FrozenDaysStay held.old.case from held.old.roster held.new.roster }
     ensures counted { meter.new ≤ meter.old + extensions_in held.old.case rounds }
-    ensures same_room { SameRoom (S.space workspace.old) (S.space workspace.new) }
+    ensures same_capacity { SameCapacity (S.space workspace.old) (S.space workspace.new) }
     ensures fits { S.fits held.old.case workspace.new ≡ true }
 {
     workspace.begin();
     make_rounds(held, rounds, from, workspace, meter, log)
 }
 
-/// A run by steps that are ready.
+/// A run with `Steps` that are ready.
 fn make_rounds<W: Write, S: Steps>(
     held: &mut Held,
     rounds: u16,
@@ -69,7 +70,7 @@ fn make_rounds<W: Write, S: Steps>(
         rounds held.old.roster held.new.roster log.old log.new) }
     ensures frozen { FrozenDaysStay held.old.case from held.old.roster held.new.roster }
     ensures counted { meter.new ≤ meter.old + extensions_in held.old.case rounds }
-    ensures same_room { SameRoom (S.space steps.old) (S.space steps.new) }
+    ensures same_capacity { SameCapacity (S.space steps.old) (S.space steps.new) }
     ensures ready { S.IsReady held.old.case steps.new }
 {
     let mut sent = log_start(log, 0, held.case(), held.total())?;
@@ -103,7 +104,7 @@ fn make_rounds<W: Write, S: Steps>(
     })
 }
 
-/// A round to make: its number, from 1, and the first week that may change.
+/// A round to be made: its number, from 1, and the first week that may change.
 #[derive(Clone, Copy)]
 struct RoundPlan {
     round: u16,
@@ -139,7 +140,7 @@ fn make_round<W: Write, S: Steps>(
     ensures frozen { FrozenDaysStay held.old.case plan.from held.old.roster held.new.roster }
     ensures counted { meter.new ≤ meter.old + nurse_count held.old.case * greatest_extension_count
         held.old.case }
-    ensures same_room { SameRoom (S.space steps.old) (S.space steps.new) }
+    ensures same_capacity { SameCapacity (S.space steps.old) (S.space steps.new) }
     ensures ready { S.IsReady held.old.case steps.new }
 {
     let mut changes = 0;

@@ -4,18 +4,19 @@ ghost use Rattle.std.specs.Prelude.{◌≡◌, true, IfOk};
 ghost use Rattle.roster_rounds.specs.Spaces.{fits_run};
 
 use roster_instance::Case;
-use roster_offers::{BestFault, RowTables, Workspace};
+use roster_offers::{BestFault, SearchesRows, Workspace};
 use roster_row::LastSearches;
 use std::alloc::Global;
 
-/// What a run writes into: the workspace of its searches, and what the last of them tell. One serves one run after another.
-pub struct RunSpace<T: RowTables> {
+/// What a run writes into: the workspace of its searches, and what the last search of each nurse found out.
+/// It can serve one run after another.
+pub struct RunSpace<T: SearchesRows> {
     pub workspace: Workspace<T>,
     pub last: LastSearches,
 }
 
-// By hand, so that who drops it has one call to prove.
-impl<T: RowTables> Drop for RunSpace<T> {
+// Written by hand, so that a function that drops it has one call to prove.
+impl<T: SearchesRows> Drop for RunSpace<T> {
     fn drop(self) {
         let RunSpace {
             workspace: _,
@@ -24,13 +25,14 @@ impl<T: RowTables> Drop for RunSpace<T> {
     }
 }
 
-impl<T: RowTables> RunSpace<T> {
-    /// Room for the runs over a case, by at most six growths. Beside the workspace it takes 36 bytes for each nurse and day and 8 for
-    /// each nurse: 5,244,800 bytes at most, those of 400 nurses over 52 weeks.
+impl<T: SearchesRows> RunSpace<T> {
+    /// Memory for runs over a case, with at most six allocations. In addition to the workspace it takes 36
+    /// bytes for each nurse and day and 8 for each nurse: at most 5,244,800 bytes, those of 400 nurses over
+    /// 52 weeks.
     ///
     /// # Errors
     ///
-    /// A growth was refused.
+    /// An allocation was refused.
     pub fn for_case(alloc: Global, case: &Case) -> Result<RunSpace<T>, BestFault>
         ensures fits { IfOk result (λ space. fits_run case.now space ≡ true) }
     {
@@ -40,7 +42,7 @@ impl<T: RowTables> RunSpace<T> {
         })
     }
 
-    /// Whether there is room for the runs over the case.
+    /// Whether it has capacity for runs over the case.
     pub fn fits(&self, case: &Case) -> bool
         ensures { result ≡ fits_run case.now self.now }
     {

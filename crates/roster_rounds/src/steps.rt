@@ -8,34 +8,35 @@ ghost use Rattle.roster_rules.specs.Improver.{same_rows, step};
 ghost use Rattle.roster_rules.specs.Penalties.{penalty};
 ghost use Rattle.roster_laws.specs.FrozenDays.{FrozenDaysStay};
 ghost use Rattle.roster_laws.specs.Greatest.{extension_count};
-ghost use Rattle.roster_offers.specs.Workspaces.{SameRoom, Space, fits_space};
-ghost use Rattle.roster_row.specs.Known.{IsKnown};
+ghost use Rattle.roster_offers.specs.Workspaces.{SameCapacity, Space, fits_space};
+ghost use Rattle.roster_row.specs.Recalled.{RecallsSearches};
 ghost use Rattle.roster_rounds.specs.Spaces.{fits_run};
 
-use crate::nurse::{step, step_unless_known};
+use crate::nurse::{step, step_or_skip};
 use crate::outcome::Step;
 use crate::space::RunSpace;
 use roster_case::Held;
-use roster_offers::{RowTables, Workspace};
+use roster_offers::{SearchesRows, Workspace};
 use roster_state::Meter;
 
-/// What makes the steps of a run, for one nurse after another: a `Workspace` by a search each, a `RunSpace` by fewer.
+/// What makes the steps of a run, for one nurse after another: a `Workspace` makes a search for each step, a
+/// `RunSpace` fewer.
 pub trait Steps {
-    /// It has room for the runs over a case.
+    /// It has capacity for runs over a case.
     ghost fits: { Meaning → Self → Bool };
 
-    /// It has that room, and what it tells of the searches so far is so.
+    /// It has that capacity, and what it knows from the searches so far is true.
     ghost IsReady: { Meaning → Self → Type 0 };
 
     /// The workspace of its searches.
     ghost space: { Self → Space };
 
-    /// Begins a run: what earlier searches told is forgotten.
+    /// Begins a run: what is known from earlier searches is forgotten.
     fn begin(&mut self)
         ensures ready { (c : Meaning) → fits c self.old ≡ true → IsReady c self.new }
-        ensures same_room { SameRoom (space self.old) (space self.new) };
+        ensures same_capacity { SameCapacity (space self.old) (space self.new) };
 
-    /// Puts the nurse's best row in where it is strictly cheaper, as `crate::step` does.
+    /// Puts the nurse's best row in if it is strictly cheaper, as `crate::step` does.
     fn step(&mut self, held: &mut Held, nurse: usize, from: u16, meter: &mut Meter) -> Step
         requires nurse { nurse < nurse_count held.old.case }
         requires ready { IsReady held.old.case self.old }
@@ -47,15 +48,15 @@ pub trait Steps {
         ensures after { result.after ≡ penalty held.old.case held.new.roster }
         ensures changed { result.changed ≡ not (same_rows held.new.roster held.old.roster) }
         ensures counted { meter.new ≤ meter.old + extension_count held.old.case nurse }
-        ensures same_room { SameRoom (space self.old) (space self.new) }
+        ensures same_capacity { SameCapacity (space self.old) (space self.new) }
         ensures ready { IsReady held.old.case self.new };
 
-    /// What is ready has room.
+    /// If it is ready, it has the capacity.
     ghost ready_fits: { (c : Meaning) (s : Self) → IsReady c s → fits c s ≡ true };
 }
 
-/// A search at each step.
-impl<T: RowTables> Steps for Workspace<T> {
+/// Each step is a search.
+impl<T: SearchesRows> Steps for Workspace<T> {
     ghost fits = { λ c w. fits_space c w };
 
     ghost IsReady = { λ c w. fits_space c w ≡ true };
@@ -71,11 +72,11 @@ impl<T: RowTables> Steps for Workspace<T> {
     }
 }
 
-/// A search where the nurse's last one doesn't tell that no row is cheaper.
-impl<T: RowTables> Steps for RunSpace<T> {
+/// A step is a search unless the nurse's last search shows that no row is cheaper.
+impl<T: SearchesRows> Steps for RunSpace<T> {
     ghost fits = { λ c s. fits_run c s };
 
-    ghost IsReady = { λ c s. (fits_run c s ≡ true) × IsKnown c s.last };
+    ghost IsReady = { λ c s. (fits_run c s ≡ true) × RecallsSearches c s.last };
 
     ghost space = { λ s. s.workspace };
 
@@ -86,7 +87,7 @@ impl<T: RowTables> Steps for RunSpace<T> {
     }
 
     fn step(&mut self, held: &mut Held, nurse: usize, from: u16, meter: &mut Meter) -> Step {
-        step_unless_known(
+        step_or_skip(
             held,
             nurse,
             from,

@@ -1,4 +1,4 @@
--- The best row in a workspace: that the row is low and allowed, and what its label says.
+-- The best row in a workspace: that it is low and allowed, and what its label says.
 use Rattle.std.proofs.Common.{◌≡◌, ◌∙◌, ◌+◌, ◌<◌, ◌≤◌, ℕ, true, ap, arith, refl, subst, sym, List, [], ◌∷◌, Contains, IsSome, None, Some}
 use Rattle.std.proofs.lemmas.Bool.{and_parts, true≢false}
 use Rattle.std.proofs.lemmas.List.Elements.{Contains-append_right}
@@ -11,7 +11,7 @@ use Rattle.roster_rules.specs.AllowedRows.{IsBestRow, penalty_with, row_keeps}
 use Rattle.roster_rules.specs.HardRules.{keeps_hard}
 use Rattle.roster_rules.specs.Penalties.{penalty}
 use Rattle.roster_rules.specs.Prefix.{due}
-use Rattle.roster_rules.specs.Room.{penalty_room}
+use Rattle.roster_rules.specs.PenaltyBounds.{penalty_limit}
 use Rattle.roster_rules.proofs.Bounds.{penalty-within}
 use Rattle.roster_rules.proofs.RowFits.{fits-with_row}
 use Rattle.roster_laws.specs.OneRow.{rest_of}
@@ -30,7 +30,7 @@ pub best_keeps : (c : Meaning) (from : ℕ) (r : Rows) (n : ℕ) (row : Row) →
 best_keeps c from r n row best =
     (allowed_keeps c from r n row (subst (λ xs. Contains xs row) (sym best.split) (Contains-append_right best.before (row ∷ best.after) row (0, omega arith, refl)))).0
 
--- what a case keeps to
+-- what a case keeps to: its limits
 pub record KeepsLimits (c : Meaning) : Type 0 where
   pub small : HasSmallNumbers c
   pub weeks : week_count c ≤ most_weeks
@@ -39,22 +39,22 @@ pub record KeepsLimits (c : Meaning) : Type 0 where
   pub nurses : nurse_count c ≤ most_nurses
 
 module _ (c : Meaning) (from : ℕ) (r : Rows) (limits : KeepsLimits c) (fits : fits_case c r ≡ true) where
-  pub best_within : (n : ℕ) (row : Row) → IsBestRow c from r n row → penalty_with c r n row < penalty_room
+  pub best_within : (n : ℕ) (row : Row) → IsBestRow c from r n row → penalty_with c r n row < penalty_limit
   unfolding penalty
   best_within n row best =
       penalty-within c (with_row r n row) limits.small limits.shifts limits.skills limits.weeks limits.nurses
       (fits-with_row c r n row fits (and_parts (is_row_of c row) (keeps_hard c (with_row r n row)) (best_keeps c from r n row best)).0)
 
-  -- what the search adds up is its penalty
-  pub sum_within : (keeps : keeps_hard c r ≡ true) (n : ℕ) (inside : n < nurse_count c) (cost : ℕ) (offers : List Offer) → best_by_states c from r n ≡ Some (cost, offers) → rest_of c r n + due c n [] + cost < penalty_room
+  -- the penalty is what the search adds up
+  pub sum_within : (keeps : keeps_hard c r ≡ true) (n : ℕ) (inside : n < nurse_count c) (cost : ℕ) (offers : List Offer) → best_by_states c from r n ≡ Some (cost, offers) → rest_of c r n + due c n [] + cost < penalty_limit
   sum_within keeps n inside cost offers is =
       omega (arith, penalty_is c from r fits keeps n inside cost offers is, best_within n (choices_of offers) (is_best c from r fits keeps n inside cost offers is))
 
   -- what the others' rows cost, and what the start owes
-  pub base_within : (keeps : keeps_hard c r ≡ true) (n : ℕ) (inside : n < nurse_count c) → rest_of c r n + due c n [] < penalty_room
+  pub base_within : (keeps : keeps_hard c r ≡ true) (n : ℕ) (inside : n < nurse_count c) → rest_of c r n + due c n [] < penalty_limit
   base_within keeps n inside = go (best_by_states c from r n) refl (best_some c from r fits keeps n inside)
     where
-      go : (o : Priced (List Offer)) → best_by_states c from r n ≡ o → IsSome o → rest_of c r n + due c n [] < penalty_room
+      go : (o : Priced (List Offer)) → best_by_states c from r n ≡ o → IsSome o → rest_of c r n + due c n [] < penalty_limit
       go None is some = elim (true≢false (sym some)) [ ]
       go (Some best) is some = omega (arith, sum_within keeps n inside best.0 best.1 is)
 

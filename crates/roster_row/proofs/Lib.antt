@@ -2,4 +2,4 @@ pub mod OfferLemmas
 pub mod RowLemmas
 pub mod OffersLaws
 pub mod BestLaws
-pub mod KnownLaws
+pub mod RecallLaws

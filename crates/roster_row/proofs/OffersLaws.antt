@@ -24,7 +24,7 @@ module _ (c : Meaning) (from : ℕ) (r : Rows) (n : ℕ) (offers : List (ArrayVe
   pub best_is : best_over c n (offers_on offers) ≡ best_by_states c from r n
   best_is = best_over_same c n (offers_on offers) (shift_offers c from r n) are.each ∙ best_by_shift c n (offers_of c from r n) (day_count c) 0 (summary_of c n [])
 
-  -- each day's offers can be searched
+  -- each day's offers are fit for a search
   pub can_search : HasSmallNumbers c → shift_count c ≤ most_shifts → skill_count c ≤ most_skills → fits_case c r ≡ true → keeps_hard c r ≡ true → n < nurse_count c → AreOffers c n offers
   can_search small shifts skills fits keeps inside =
       let each : (day : ℕ) → day < day_count c → AreDayOffers c n (shift_offers c from r n day) = λ day within. record {

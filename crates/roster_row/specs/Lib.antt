@@ -1,3 +1,3 @@
 pub mod Offers
 pub mod Searches
-pub mod Known
+pub mod Recalled

@@ -1,4 +1,4 @@
-//! What the last search for each nurse tells of the next.
+//! What the last search for each nurse says of the next one.
 
 ghost use Rattle.std.specs.Prelude.{◌≡◌, ◌+◌, ◌<◌, ◌≤◌, ◌^◌, ℕ, true, All, IfOk, IfSome, None, is_some, length, replicate, slice_index_or};
 ghost use Rattle.roster_instance.specs.Choices.{shift_of};
@@ -8,7 +8,7 @@ ghost use Rattle.roster_instance.specs.Rosters.{Row};
 ghost use Rattle.roster_rules.specs.AllowedRows.{best_row};
 ghost use Rattle.roster_rules.specs.Improver.{step};
 ghost use Rattle.roster_offers.specs.Lists.{AreOffers, IsFound, best_over, offers_on};
-ghost use Rattle.roster_row.specs.Known.{ArePrices, IsDearer, IsKnown, fits_last, gain_over, most_gain, price_place, prices_on};
+ghost use Rattle.roster_row.specs.Recalled.{ArePrices, IsDearer, RecallsSearches, fits_last, gain_over, most_gain, price_index, prices_on};
 ghost use Rattle.roster_row.specs.Searches.{AreOffersOf, AreShiftOffers};
 
 use arrayvec::ArrayVec;
@@ -21,17 +21,18 @@ use std::alloc::Global;
 /// The price of what isn't offered.
 const NOT_OFFERED: u32 = u32::MAX;
 
-/// What the last search for each nurse went over and found: at what price each shift was offered on each day, and what the best row cost.
-/// It tells of some nurses that no row has become cheaper than the present one. For each nurse and day that is 36 bytes, and 8 for each
-/// nurse: 5,244,800 bytes at most. One serves all nurses of a case, one after another.
+/// What the last search for each nurse went over and found: the price of each shift on each day, and the cost
+/// of the best row. From this it follows for some nurses that no row has become cheaper than the present one,
+/// so that the next search can be skipped. It takes 36 bytes for each nurse and day, and 8 for each nurse: at
+/// most 5,244,800 bytes. One value serves all nurses of a case, one after another.
 pub struct LastSearches {
-    /// For each nurse and day the price to be off, and the price of each shift.
+    /// For each nurse and day the price of a day off, and the price of each shift.
     pub(crate) prices: Vec<[u32; MOST_OFFERS]>,
-    /// For each nurse what the best row cost, beside what the start owes; none before the first search.
+    /// For each nurse what the best row cost, without what the start owes; `None` before the first search.
     pub(crate) costs: Vec<Option<u32>>,
 }
 
-// By hand, so that who drops it has one call to prove.
+// Written by hand, so that code that drops it has one call to prove.
 impl Drop for LastSearches {
     fn drop(self) {
         let LastSearches {
@@ -42,13 +43,13 @@ impl Drop for LastSearches {
 }
 
 impl LastSearches {
-    /// Room for the nurses of a case, by at most two growths. No search is known.
+    /// Capacity for the nurses of a case, by at most two allocations. No search is recorded.
     ///
     /// # Errors
     ///
-    /// A growth was refused.
+    /// An allocation was refused.
     pub fn for_case(alloc: Global, case: &Case) -> Result<LastSearches, BestFault>
-        ensures known { IfOk result (IsKnown case.now) }
+        ensures recalls { IfOk result (RecallsSearches case.now) }
     {
         let nurses = case.nurses();
         let days = case.days() as usize;
@@ -58,7 +59,7 @@ impl LastSearches {
         })
     }
 
-    /// Whether there is room for what is known of the case's nurses, and no more.
+    /// Whether the capacity is that of the case: a cost for each nurse, and prices for each nurse and day.
     pub fn fits(&self, case: &Case) -> bool
         ensures { result ≡ fits_last case.now self.now }
     {
@@ -74,19 +75,19 @@ impl LastSearches {
         self.costs.fill(None);
     }
 
-    /// Tells what another one tells, of the same case.
+    /// Takes over what another value records of the same case.
     pub fn put(&mut self, other: &LastSearches)
-        requires { (c : Meaning) × IsKnown c self.old × IsKnown c other.now }
+        requires { (c : Meaning) × RecallsSearches c self.old × RecallsSearches c other.now }
         ensures prices { self.new.prices.items ≡ other.now.prices.items }
         ensures costs { self.new.costs.items ≡ other.now.costs.items }
-        ensures known { (c : Meaning) → IsKnown c other.now → IsKnown c self.new }
+        ensures recalls { (c : Meaning) → RecallsSearches c other.now → RecallsSearches c self.new }
     {
         self.prices.copy_from_slice(other.prices.as_slice());
         self.costs.copy_from_slice(other.costs.as_slice());
     }
 
-    /// Whether it is known, by the nurse's last search, that no row is cheaper than the present one, where these are the nurse's offers
-    /// of all days.
+    /// Whether the nurse's last search shows that no row is cheaper than the present one, given the nurse's
+    /// offers of all days.
     pub(crate) fn has_none_cheaper(
         &self,
         held: &Held,
@@ -94,7 +95,7 @@ impl LastSearches {
         offers: &[ArrayVec<Offer, MOST_OFFERS>],
     ) -> bool
         requires nurse { nurse < nurse_count held.now.case }
-        requires known { IsKnown held.now.case self.now }
+        requires recalls { RecallsSearches held.now.case self.now }
         requires offers { AreOffersOf held.now.case held.now.roster nurse offers.now }
         ensures { result ≡ true → (from : ℕ) →
             AreShiftOffers held.now.case from held.now.roster nurse offers.now →
@@ -121,16 +122,16 @@ impl LastSearches {
         present <= least
     }
 
-    /// Whether a search for the nurse is known.
-    pub fn knows(&self, nurse: usize) -> bool
+    /// Whether a search for the nurse is recorded.
+    pub fn has_search(&self, nurse: usize) -> bool
         requires { nurse < length self.now.costs.items }
         ensures { result ≡ is_some (slice_index_or self.now.costs.items nurse None) }
     {
         self.costs[nurse].is_some()
     }
 
-    /// By how much more the present choice of a nurse's day has become dearer since her last search than some other offer of the day
-    /// has, at most.
+    /// How much more, at most, the present choice of a nurse's day has become dearer since her last search
+    /// than any other offer of the day.
     pub fn most_gain(
         &self,
         case: &Case,
@@ -141,9 +142,9 @@ impl LastSearches {
     ) -> u64
         requires nurse { nurse < nurse_count case.now }
         requires day { day < day_count case.now }
-        requires known { IsKnown case.now self.now }
-        requires present { price_place (shift_of present.choice) < 1 + most_shifts }
-        requires places { All (λ offer. price_place (shift_of offer.choice) < 1 + most_shifts)
+        requires recalls { RecallsSearches case.now self.now }
+        requires present { price_index (shift_of present.choice) < 1 + most_shifts }
+        requires indices { All (λ offer. price_index (shift_of offer.choice) < 1 + most_shifts)
             offers.now }
         ensures gain { result ≡ most_gain (prices_on case.now self.now nurse day) present
             offers.now }
@@ -158,7 +159,7 @@ impl LastSearches {
         most
     }
 
-    /// Keeps the prices and the cost of a search for a nurse, in the place of those of an earlier one.
+    /// Records the prices and the cost of a search for a nurse, instead of those of an earlier one.
     pub fn remember(
         &mut self,
         case: &Case,
@@ -167,12 +168,12 @@ impl LastSearches {
         cost: u32,
     )
         requires nurse { nurse < nurse_count case.now }
-        requires known { IsKnown case.now self.old }
+        requires recalls { RecallsSearches case.now self.old }
         requires days { length offers.now ≡ day_count case.now }
         requires offers { AreOffers case.now nurse offers.now }
         requires found { (row : Row) × IsFound (best_over case.now nurse (offers_on offers.now))
             cost row }
-        ensures known { IsKnown case.now self.new }
+        ensures recalls { RecallsSearches case.now self.new }
     {
         case.keeps_limits();
         let days = offers.len();
@@ -183,16 +184,17 @@ impl LastSearches {
     }
 }
 
-/// How the prices of a day's offers have changed: they have all risen by at least `rise` less `fall`, one of which is 0.
+/// How the prices of a day's offers have changed: each has risen by at least `rise` less `fall`, one of which
+/// is 0.
 #[derive(Clone, Copy)]
 struct Change {
     rise: u32,
     fall: u32,
 }
 
-/// How the prices have changed since these, if each offer had one.
+/// How a day's prices have changed since these. `None` if an offer had no price then.
 fn change_since(prices: &[u32; MOST_OFFERS], offers: &[Offer]) -> Option<Change>
-    requires places { All (λ offer. price_place (shift_of offer.choice) < 1 + most_shifts)
+    requires indices { All (λ offer. price_index (shift_of offer.choice) < 1 + most_shifts)
         offers.now }
     ensures { IfSome result (λ change. All (IsDearer prices.now change.rise change.fall)
         offers.now) }
@@ -200,7 +202,7 @@ fn change_since(prices: &[u32; MOST_OFFERS], offers: &[Offer]) -> Option<Change>
     let mut rise = u32::MAX;
     let mut fall = 0;
     for offer in offers {
-        let before = prices[price_place(offer.choice)];
+        let before = prices[price_index(offer.choice)];
         if before == NOT_OFFERED {
             return None;
         }
@@ -210,34 +212,34 @@ fn change_since(prices: &[u32; MOST_OFFERS], offers: &[Offer]) -> Option<Change>
     Some(Change { rise, fall })
 }
 
-/// By how much more the present choice has become dearer since these prices than an offer has.
+/// How much more the present choice has become dearer since these prices than an offer.
 fn gain_over(prices: &[u32; MOST_OFFERS], present: Offer, offer: Offer) -> u64
-    requires present { price_place (shift_of present.choice) < 1 + most_shifts }
-    requires offer { price_place (shift_of offer.choice) < 1 + most_shifts }
+    requires present { price_index (shift_of present.choice) < 1 + most_shifts }
+    requires offer { price_index (shift_of offer.choice) < 1 + most_shifts }
     ensures gain { result ≡ gain_over prices.now present offer }
     ensures within { result ≤ 2 ^ 33 }
 {
-    let mine = prices[price_place(present.choice)] as u64;
-    let others = prices[price_place(offer.choice)] as u64;
+    let mine = prices[price_index(present.choice)] as u64;
+    let others = prices[price_index(offer.choice)] as u64;
     (present.price as u64 + others).saturating_sub(mine + offer.price as u64)
 }
 
 /// The price of each shift on a day.
 fn prices_by_shift(offers: &[Offer]) -> [u32; MOST_OFFERS]
-    requires places { All (λ offer. price_place (shift_of offer.choice) < 1 + most_shifts)
+    requires indices { All (λ offer. price_index (shift_of offer.choice) < 1 + most_shifts)
         offers.now }
     ensures { ArePrices offers.now result }
 {
     let mut prices = [NOT_OFFERED; MOST_OFFERS];
     for offer in offers {
-        prices[price_place(offer.choice)] = offer.price;
+        prices[price_index(offer.choice)] = offer.price;
     }
     prices
 }
 
-/// Where the price of a choice stands: to be off comes first, then each shift.
-fn price_place(choice: Choice) -> usize
-    ensures { result ≡ price_place (shift_of choice) }
+/// The index of a choice's price: the day off comes first, then each shift.
+fn price_index(choice: Choice) -> usize
+    ensures { result ≡ price_index (shift_of choice) }
 {
     match choice.shift() {
         None => 0,

@@ -12,7 +12,7 @@ ghost use Rattle.roster_rules.specs.AllowedRows.{is_frozen};
 ghost use Rattle.roster_rules.specs.Penalties.{request_cost_on};
 ghost use Rattle.roster_rules.specs.Weights.{most_request};
 ghost use Rattle.roster_laws.specs.OneRow.{is_open, others};
-ghost use Rattle.roster_laws.specs.Staffing.{lacking, meets, with_choice};
+ghost use Rattle.roster_laws.specs.Staffing.{shortfall, meets, with_choice};
 ghost use Rattle.roster_offers.specs.Offers.{offer_of, offers_of, shift_offers};
 
 use arrayvec::ArrayVec;
@@ -25,17 +25,18 @@ use roster_offers::{
 use roster_rules::is_frozen;
 use roster_rules::weights::STAFFING;
 
-/// How many nurses a day lacks to its minimums and to its optimums, over all shifts and skills.
+/// By how many nurses a day is short of its minimums and of its optimums, over all shifts and skills.
 #[derive(Clone, Copy)]
-struct Lacking {
+struct Shortfall {
     minimum: u32,
     optimum: u32,
 }
 
-/// What a nurse may do on a day while the others' rows stay, in the order of the choices: to be off, or to work a shift with one
-/// of the nurse's skills, where the nurse isn't absent; each only where no minimum of the day is missed with it. The price is that of the day's staffing with
-/// this choice, of an off request against it, and of a wish to work that it doesn't meet. The days of the weeks before week `from`
-/// are frozen, and the nurse's fixed days: on these the nurse may do only what the roster says. Every `from` is allowed.
+/// What a nurse may do on a day while the others' rows stay, in the order of the choices: be off, or, unless
+/// absent, work a shift with one of the nurse's skills. Only choices with which the day is short of no
+/// minimum are offered. The price is that of the day's staffing with this choice, of an off request against
+/// it, and of a wish to work that it doesn't meet. The days of the weeks before week `from` are frozen, and
+/// so are the nurse's fixed days: on these only the roster's own choice is offered. Every `from` is allowed.
 pub fn choices(held: &Held, nurse: usize, day: u16, from: u16) -> ArrayVec<Offer, MOST_CHOICES>
     requires nurse { nurse < nurse_count held.now.case }
     requires day { day < day_count held.now.case }
@@ -45,18 +46,18 @@ pub fn choices(held: &Held, nurse: usize, day: u16, from: u16) -> ArrayVec<Offer
         (choice_on (row_of held.now.roster nurse) day) ∷ [] }
     ensures few { length result.items ≤ 1 + most_shifts * most_skills }
 {
-    // The roster keeps the hard rules: so the present choice is one of those that are open.
+    // The roster keeps the hard rules, so the present choice is open.
     held.keeps_rules();
     if is_frozen(held.case(), from, nurse, day) {
         return present_choice(held, nurse, day);
     }
-    let without = lacking_without(held, nurse, day);
+    let without = shortfall_without(held, nurse, day);
     let case = held.case();
-    offers_of_choices(&NurseDay { case, nurse, day }, &Beside { held, without })
+    offers_of_choices(&NurseDay { case, nurse, day }, &NextTo { held, without })
 }
 
-/// The offers of a nurse on a day that the search goes over: to be off, and for each shift the cheapest, of equally cheap ones the
-/// first.
+/// The offers of a day that a search goes over: a day off, and for each shift the cheapest offer, of equally
+/// cheap ones the first.
 pub(crate) fn choices_by_shift(
     held: &Held,
     nurse: usize,
@@ -71,40 +72,41 @@ pub(crate) fn choices_by_shift(
     // As in `choices`.
     held.keeps_rules();
     if !is_frozen(held.case(), from, nurse, day) {
-        let without = lacking_without(held, nurse, day);
+        let without = shortfall_without(held, nurse, day);
         let case = held.case();
-        return offers_by_shift(&NurseDay { case, nurse, day }, &Beside { held, without });
+        return offers_by_shift(&NurseDay { case, nurse, day }, &NextTo { held, without });
     }
     present_choice(held, nurse, day)
 }
 
-/// What the roster says that the nurse does on the day, alone.
+/// The roster's own choice for the nurse's day, as the only offer.
 fn present_choice<const N: usize>(held: &Held, nurse: usize, day: u16) -> ArrayVec<Offer, N>
-    requires room { 0 < N }
+    requires capacity { 0 < N }
     requires nurse { nurse < nurse_count held.now.case }
     requires day { day < day_count held.now.case }
     ensures offer { result.items ≡ offer_of held.now.case held.now.roster nurse day
         (choice_on (row_of held.now.roster nurse) day) ∷ [] }
 {
     held.keeps_rules();
-    let without = lacking_without(held, nurse, day);
+    let without = shortfall_without(held, nurse, day);
     let choice = held.row(nurse)[day as usize];
     let asked = request_cost(held.case(), nurse, day, choice.shift());
-    let lack = lacking_by(held, nurse, day, choice, without);
+    let lack = shortfall_by(held, nurse, day, choice, without);
     let price = STAFFING * lack.optimum + asked;
     let mut offers = ArrayVec::new();
     offers.push(Offer { choice, price });
     offers
 }
 
-/// What offers a nurse the choices of a day that miss no minimum of it while the others' rows stay, by what the day lacks without her.
+/// Offers a nurse those choices of a day with which the day is short of no minimum while the others' rows
+/// stay. `without` is what the day is short of without her.
 #[derive(Clone, Copy)]
-struct Beside<'a> {
+struct NextTo<'a> {
     held: &'a Held,
-    without: Lacking,
+    without: Shortfall,
 }
 
-impl Offering for Beside<'_> {
+impl Offering for NextTo<'_> {
     ghost use Rattle.std.specs.Prelude.{◌≡◌};
     ghost use Rattle.roster_laws.specs.OneRow.{others, price as price_of};
     ghost use Rattle.roster_laws.specs.Staffing.{meets, with_choice};
@@ -123,22 +125,22 @@ impl Offering for Beside<'_> {
     }
 }
 
-/// A choice with its price, where no minimum of the day is missed with it, by what the day lacks without the nurse and what the
-/// requests cost.
+/// A choice with its price, if the day is short of no minimum with it, by what the day is short of without
+/// the nurse and what her requests cost.
 fn offered(
     held: &Held,
     nurse: usize,
     day: u16,
     choice: Choice,
-    without: Lacking,
+    without: Shortfall,
     asked: u32,
 ) -> Option<Offer>
     requires nurse { nurse < nurse_count held.now.case }
     requires day { day < day_count held.now.case }
     requires choice { is_choice_of held.now.case choice ≡ true }
-    requires minimum { without.minimum ≡ lacking held.now.case (minimum held.now.case day)
+    requires minimum { without.minimum ≡ shortfall held.now.case (minimum held.now.case day)
         (others held.now.roster nurse day) }
-    requires optimum { without.optimum ≡ lacking held.now.case (optimum held.now.case day)
+    requires optimum { without.optimum ≡ shortfall held.now.case (optimum held.now.case day)
         (others held.now.roster nurse day) }
     requires within { without.optimum ≤ 1 + most_shifts * most_skills * most_small }
     requires asked { asked ≡ request_cost_on held.now.case nurse day (shift_of choice) }
@@ -146,54 +148,55 @@ fn offered(
     ensures { result ≡ (if meets held.now.case day (with_choice (others held.now.roster nurse day)
         choice) then Some (offer_of held.now.case held.now.roster nurse day choice) else None) }
 {
-    let lack = lacking_by(held, nurse, day, choice, without);
+    let lack = shortfall_by(held, nurse, day, choice, without);
     offer_if(lack.minimum, choice, STAFFING * lack.optimum + asked)
 }
 
-fn offer_if(lacking: u32, choice: Choice, price: u32) -> Option<Offer>
-    ensures { result ≡ (if lacking == 0 then Some (record { choice = choice; price = price }) else
+fn offer_if(shortfall: u32, choice: Choice, price: u32) -> Option<Offer>
+    ensures { result ≡ (if shortfall == 0 then Some (record { choice = choice; price = price }) else
         None) }
 {
-    if lacking == 0 {
+    if shortfall == 0 {
         return Some(Offer { choice, price });
     }
     None
 }
 
-// ---- what a day lacks
+// ---- what a day is short of
 
-/// S1. What a day lacks without the nurse. What it lacks with all nurses is known: only the nurse's own place is looked at.
-fn lacking_without(held: &Held, nurse: usize, day: u16) -> Lacking
+/// S1. What a day is short of without the nurse. What it is short of with all nurses is at hand, so only the
+/// nurse's own slot is looked at.
+fn shortfall_without(held: &Held, nurse: usize, day: u16) -> Shortfall
     requires nurse { nurse < nurse_count held.now.case }
     requires day { day < day_count held.now.case }
-    ensures minimum { result.minimum ≡ lacking held.now.case (minimum held.now.case day)
+    ensures minimum { result.minimum ≡ shortfall held.now.case (minimum held.now.case day)
         (others held.now.roster nurse day) }
-    ensures optimum { result.optimum ≡ lacking held.now.case (optimum held.now.case day)
+    ensures optimum { result.optimum ≡ shortfall held.now.case (optimum held.now.case day)
         (others held.now.roster nurse day) }
     ensures within { result.optimum ≤ 1 + most_shifts * most_skills * most_small }
 {
     held.keeps_rules();
     let own = held.row(nurse)[day as usize];
-    lacking_without_choice(held, nurse, day, own)
+    shortfall_without_choice(held, nurse, day, own)
 }
 
-/// The same by the nurse's own choice. The roster keeps the hard rules: so with all nurses no minimum is missed, and without this one
-/// at most that of the nurse's place, by one.
-fn lacking_without_choice(held: &Held, nurse: usize, day: u16, own: Choice) -> Lacking
+/// The same by the nurse's own choice. The roster keeps the hard rules, so with all nurses the day is short
+/// of no minimum, and without this nurse at most by one, in the nurse's slot.
+fn shortfall_without_choice(held: &Held, nurse: usize, day: u16, own: Choice) -> Shortfall
     requires nurse { nurse < nurse_count held.now.case }
     requires day { day < day_count held.now.case }
     requires choice { is_choice_of held.now.case own ≡ true }
     requires own { own ≡ choice_on (row_of held.now.roster nurse) day }
-    ensures minimum { result.minimum ≡ lacking held.now.case (minimum held.now.case day)
+    ensures minimum { result.minimum ≡ shortfall held.now.case (minimum held.now.case day)
         (others held.now.roster nurse day) }
-    ensures optimum { result.optimum ≡ lacking held.now.case (optimum held.now.case day)
+    ensures optimum { result.optimum ≡ shortfall held.now.case (optimum held.now.case day)
         (others held.now.roster nurse day) }
     ensures within { result.optimum ≤ 1 + most_shifts * most_skills * most_small }
 {
     held.keeps_rules();
-    let all = held.lacking(day);
+    let all = held.shortfall(day);
     match own {
-        Choice::Off => Lacking {
+        Choice::Off => Shortfall {
             minimum: 0,
             optimum: all,
         },
@@ -202,7 +205,7 @@ fn lacking_without_choice(held: &Held, nurse: usize, day: u16, own: Choice) -> L
             let others = held.others(nurse, day, shift, skill);
             let minimum = one_where_fewer(others, need.minimum);
             let optimum = all + one_where_fewer(others, need.optimum);
-            Lacking { minimum, optimum }
+            Shortfall { minimum, optimum }
         }
     }
 }
@@ -214,48 +217,54 @@ fn one_where_fewer(have: u16, want: u16) -> u32
     (have < want) as u32
 }
 
-/// What it lacks with a choice of the nurse.
-#[tactic(auto, using(crate::proofs::OfferLemmas::lacking_unchanged))]
-fn lacking_by(held: &Held, nurse: usize, day: u16, choice: Choice, without: Lacking) -> Lacking
+/// What the day is short of with a choice of the nurse.
+#[tactic(auto, using(crate::proofs::OfferLemmas::shortfall_unchanged))]
+fn shortfall_by(
+    held: &Held,
+    nurse: usize,
+    day: u16,
+    choice: Choice,
+    without: Shortfall,
+) -> Shortfall
     requires nurse { nurse < nurse_count held.now.case }
     requires day { day < day_count held.now.case }
     requires choice { is_choice_of held.now.case choice ≡ true }
-    requires minimum { without.minimum ≡ lacking held.now.case (minimum held.now.case day)
+    requires minimum { without.minimum ≡ shortfall held.now.case (minimum held.now.case day)
         (others held.now.roster nurse day) }
-    requires optimum { without.optimum ≡ lacking held.now.case (optimum held.now.case day)
+    requires optimum { without.optimum ≡ shortfall held.now.case (optimum held.now.case day)
         (others held.now.roster nurse day) }
-    ensures minimum { result.minimum ≡ lacking held.now.case (minimum held.now.case day)
+    ensures minimum { result.minimum ≡ shortfall held.now.case (minimum held.now.case day)
         (with_choice (others held.now.roster nurse day) choice) }
-    ensures optimum { result.optimum ≡ lacking held.now.case (optimum held.now.case day)
+    ensures optimum { result.optimum ≡ shortfall held.now.case (optimum held.now.case day)
         (with_choice (others held.now.roster nurse day) choice) }
     ensures within { result.optimum ≤ without.optimum }
 {
     match choice {
         Choice::Off => without,
-        Choice::Work(shift, skill) => lacking_with(held, nurse, day, shift, skill, without),
+        Choice::Work(shift, skill) => shortfall_with(held, nurse, day, shift, skill, without),
     }
 }
 
-/// What it lacks with the nurse at work: one nurse less, where the others don't reach the number.
-fn lacking_with(
+/// What the day is short of with the nurse at work: one nurse less, if the others don't reach the number.
+fn shortfall_with(
     held: &Held,
     nurse: usize,
     day: u16,
     shift: Shift,
     skill: Skill,
-    without: Lacking,
-) -> Lacking
+    without: Shortfall,
+) -> Shortfall
     requires nurse { nurse < nurse_count held.now.case }
     requires day { day < day_count held.now.case }
     requires shift { shift.0 < shift_count held.now.case }
     requires skill { skill.0 < skill_count held.now.case }
-    requires minimum { without.minimum ≡ lacking held.now.case (minimum held.now.case day)
+    requires minimum { without.minimum ≡ shortfall held.now.case (minimum held.now.case day)
         (others held.now.roster nurse day) }
-    requires optimum { without.optimum ≡ lacking held.now.case (optimum held.now.case day)
+    requires optimum { without.optimum ≡ shortfall held.now.case (optimum held.now.case day)
         (others held.now.roster nurse day) }
-    ensures minimum { result.minimum ≡ lacking held.now.case (minimum held.now.case day)
+    ensures minimum { result.minimum ≡ shortfall held.now.case (minimum held.now.case day)
         (with_choice (others held.now.roster nurse day) (Work shift skill)) }
-    ensures optimum { result.optimum ≡ lacking held.now.case (optimum held.now.case day)
+    ensures optimum { result.optimum ≡ shortfall held.now.case (optimum held.now.case day)
         (with_choice (others held.now.roster nurse day) (Work shift skill)) }
     ensures within { result.optimum ≤ without.optimum }
 {
@@ -263,11 +272,11 @@ fn lacking_with(
     let others = held.others(nurse, day, shift, skill);
     let minimum = with_one_more(without.minimum, others, need.minimum);
     let optimum = with_one_more(without.optimum, others, need.optimum);
-    Lacking { minimum, optimum }
+    Shortfall { minimum, optimum }
 }
 
-fn with_one_more(lacking: u32, have: u16, want: u16) -> u32
-    ensures { result ≡ lacking - one_if (nat_lt have want) }
+fn with_one_more(shortfall: u32, have: u16, want: u16) -> u32
+    ensures { result ≡ shortfall - one_if (nat_lt have want) }
 {
-    lacking.saturating_sub(one_where_fewer(have, want))
+    shortfall.saturating_sub(one_where_fewer(have, want))
 }

@@ -10,26 +10,26 @@ ghost use Rattle.roster_laws.specs.Greatest.{extension_count};
 ghost use Rattle.roster_laws.specs.OneRow.{rest_of};
 ghost use Rattle.roster_offers.specs.Lists.{IsFound, best_over, offers_on};
 ghost use Rattle.roster_offers.specs.Offers.{shift_offers};
-ghost use Rattle.roster_offers.specs.Workspaces.{SameRoom, fits_space};
-ghost use Rattle.roster_row.specs.Known.{IsKnown};
+ghost use Rattle.roster_offers.specs.Workspaces.{SameCapacity, fits_space};
+ghost use Rattle.roster_row.specs.Recalled.{RecallsSearches};
 ghost use Rattle.roster_row.specs.Searches.{AreOffersOf, AreShiftOffers};
 
 use crate::last::LastSearches;
 use crate::offer::choices_by_shift;
 use roster_case::Held;
-use roster_offers::{RowTables, Workspace};
+use roster_offers::{SearchesRows, Workspace};
 use roster_state::{Meter, start};
 
-/// What the search for a nurse's best row gives beside the row.
+/// What the search for a nurse's best row returns besides the row.
 #[derive(Clone, Copy, Debug, PartialEq, Eq)]
 pub struct Best {
-    /// The roster's penalty with that row in the place of the nurse's.
+    /// The roster's penalty with that row instead of the nurse's own.
     pub total: u64,
 }
 
-/// Searches a nurse's best row from a week on, over any tables: what `best_row` of `roster_best` says of the programs' own holds of
-/// each, but that here the tables say what a search counts.
-pub fn best_row<T: RowTables>(
+/// Searches a nurse's best row from a week on, by any row search. It promises what `best_row` of
+/// `roster_best` promises, except that the row search says what is counted.
+pub fn best_row<T: SearchesRows>(
     held: &Held,
     nurse: usize,
     from: u16,
@@ -49,9 +49,9 @@ pub fn best_row<T: RowTables>(
     // What it takes.
     ensures each_day { meter.old + day_count held.now.case ≤ meter.new }
     ensures counted { meter.new ≤ meter.old + extension_count held.now.case nurse }
-    ensures standing { T.IsCounted held.now.case nurse (shift_offers held.now.case from
+    ensures are_reachable { T.IsCounted held.now.case nurse (shift_offers held.now.case from
         held.now.roster nurse) meter.old meter.new }
-    ensures same_room { SameRoom workspace.old workspace.new }
+    ensures same_capacity { SameCapacity workspace.old workspace.new }
     ensures fits { fits_space held.now.case workspace.new ≡ true }
 {
     held.keeps_rules();
@@ -60,9 +60,10 @@ pub fn best_row<T: RowTables>(
     best
 }
 
-/// Searches a nurse's best row as `best_row` does, but where the nurse's last search tells that no row is cheaper than the present one.
-/// There it changes nothing and returns `None`. It remembers each search that it makes.
-pub fn cheaper_row<T: RowTables>(
+/// Searches a nurse's best row as `best_row` does, unless the nurse's last search shows that no row is
+/// cheaper than the present one: then it changes nothing and returns `None`. It records each search that it
+/// makes.
+pub fn cheaper_row<T: SearchesRows>(
     held: &Held,
     nurse: usize,
     from: u16,
@@ -72,10 +73,10 @@ pub fn cheaper_row<T: RowTables>(
 ) -> Option<Best>
     requires nurse { nurse < nurse_count held.now.case }
     requires fits { fits_space held.now.case workspace.old ≡ true }
-    requires known { IsKnown held.now.case last.old }
+    requires recalls { RecallsSearches held.now.case last.old }
     requires room { meter.old + extension_count held.now.case nurse ≤ greatest_u64 }
 
-    // The row, and the roster's penalty with it; where there is none, a step wouldn't change the roster.
+    // The row, and the roster's penalty with it. If there is none, a step wouldn't change the roster.
     ensures best { OnSome result (IsBestRow held.now.case from held.now.roster nurse
         workspace.new.row) }
     ensures keeps { OnSome result (row_keeps held.now.case held.now.roster nurse
@@ -88,9 +89,9 @@ pub fn cheaper_row<T: RowTables>(
     // What it takes.
     ensures spared { IfNone result (meter.new ≡ meter.old) }
     ensures counted { meter.new ≤ meter.old + extension_count held.now.case nurse }
-    ensures same_room { SameRoom workspace.old workspace.new }
+    ensures same_capacity { SameCapacity workspace.old workspace.new }
     ensures fits { fits_space held.now.case workspace.new ≡ true }
-    ensures known { IsKnown held.now.case last.new }
+    ensures recalls { RecallsSearches held.now.case last.new }
 {
     held.case().keeps_limits();
     held.keeps_rules();
@@ -103,9 +104,9 @@ pub fn cheaper_row<T: RowTables>(
     Some(best)
 }
 
-/// Searches over a nurse's offers of all days, which were put into the workspace. Beside the best row's penalty it returns what that row
-/// costs beside what the start owes.
-fn best_of_offers<T: RowTables>(
+/// Searches over a nurse's offers of all days, which were put into the workspace. Besides the best row's
+/// penalty it returns what that row costs without what the start owes.
+fn best_of_offers<T: SearchesRows>(
     held: &Held,
     nurse: usize,
     workspace: &mut Workspace<T>,
@@ -121,13 +122,14 @@ fn best_of_offers<T: RowTables>(
         + due held.now.case nurse [] + result.0 }
     ensures each_day { meter.old + day_count held.now.case ≤ meter.new }
     ensures counted { meter.new ≤ meter.old + extension_count held.now.case nurse }
-    ensures standing { T.IsCounted held.now.case nurse (offers_on workspace.old.offers) meter.old
-        meter.new }
-    ensures same_room { SameRoom workspace.old workspace.new }
+    ensures are_reachable { T.IsCounted held.now.case nurse (offers_on workspace.old.offers)
+        meter.old meter.new }
+    ensures same_capacity { SameCapacity workspace.old workspace.new }
     ensures fits { fits_space held.now.case workspace.new ≡ true }
     ensures offers { workspace.new.offers ≡ workspace.old.offers }
 {
-    // The case has small numbers, and the roster keeps the hard rules: so each day has an offer, and there is a best row.
+    // The case has small numbers, and the roster keeps the hard rules, so each day has an offer, and there is
+    // a best row.
     held.case().keeps_limits();
     held.keeps_rules();
     let cost = workspace.search_offers(held.case(), nurse, meter);
@@ -136,12 +138,17 @@ fn best_of_offers<T: RowTables>(
     (cost, Best { total })
 }
 
-/// Puts the offers of each day, one for each shift, into a workspace in the place of others.
-fn offers_of_days<T: RowTables>(held: &Held, nurse: usize, from: u16, workspace: &mut Workspace<T>)
+/// Puts the offers of each day, one for each shift, into a workspace instead of those that are there.
+fn offers_of_days<T: SearchesRows>(
+    held: &Held,
+    nurse: usize,
+    from: u16,
+    workspace: &mut Workspace<T>,
+)
     requires nurse { nurse < nurse_count held.now.case }
     requires fits { fits_space held.now.case workspace.old ≡ true }
     ensures offers { AreShiftOffers held.now.case from held.now.roster nurse workspace.new.offers }
-    ensures same_room { SameRoom workspace.old workspace.new }
+    ensures same_capacity { SameCapacity workspace.old workspace.new }
     ensures fits { fits_space held.now.case workspace.new ≡ true }
 {
     let case = held.case();

@@ -1,4 +1,4 @@
--- A test of all numbers below a number, as it goes on and as it fails.
+-- A test of all numbers below a number, after one more number that passes, and after one that fails.
 use Rattle.std.proofs.Common.{◌≡◌, ◌∙◌, ◌+◌, ◌<◌, ◌⊎◌, ◌&&◌, ℕ, zero, suc, Bool, true, false, inl, inr, ap, ap₂, arith, sym}
 use Rattle.std.proofs.Math.Bool.{and-false}
 use Rattle.std.proofs.lemmas.Bool.{cases_eq}

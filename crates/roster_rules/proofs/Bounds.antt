@@ -1,5 +1,5 @@
--- Bounds of the penalties of a roster, where the numbers of an instance are small: all sums stay below 2^33. The bounds are
--- for the largest case, by its limits and the weights.
+-- Bounds for the penalties of a roster, given that the numbers of an instance are small: all sums stay below
+-- 2^33. The bounds are those of the largest case, by its limits and the weights.
 use Rattle.std.proofs.Common.{◌≡◌, sym, arith, ℕ, Bool, ◌+◌, ◌-◌, ◌*◌, ◌<◌, ◌≤◌, true, false, ◌||◌, length, max, if◌then◌else◌, Option}
 use Rattle.roster_instance.specs.declared.choice.Shift.{Shift}
 use Rattle.roster_instance.specs.Counting.{sum_below}
@@ -7,7 +7,7 @@ use Rattle.roster_instance.specs.Days.{Days, shift_on, works, days_worked, satur
 use Rattle.roster_instance.specs.Limits.{most_days, most_keep, most_nurses, most_shifts, most_skills, most_small, most_weeks}
 use Rattle.roster_instance.specs.Meaning.{Meaning, week_count, day_count, shift_count, skill_count, nurse_count, run_of_shift, past_of, contract_of, optimum}
 use Rattle.roster_rules.specs.Penalties.{staffing_cost, staffing_cost_of_day, working_run_cost, shift_run_cost, free_run_cost, breaks_off_request, meets_wishes, off_request_cost, is_kept, keep_cost, keep_cost_on, request_cost, request_cost_on, wish_cost, wish_cost_on, split_cost, totals_cost, weekends_cost, over_nurses, costs_of, total_cost}
-use Rattle.roster_rules.specs.Room.{most_penalty, most_staffing, penalty_room}
+use Rattle.roster_rules.specs.PenaltyBounds.{most_penalty, most_staffing, penalty_limit}
 use Rattle.roster_rules.specs.Weights.{staffing_weight, working_run_weight, shift_run_weight, free_run_weight, most_request, off_request_weight, split_weight, assignment_weight, weekend_weight, wish_weight}
 use Rattle.roster_instance.specs.Rosters.{Rows, days_of_nurse, cover, fits_case}
 use Rattle.roster_instance.specs.Small.{HasSmallNumbers}
@@ -16,11 +16,11 @@ use Rattle.roster_rules.proofs.RunBounds.{where_within, sum_both, sum_within, co
 
 -- ---- staffing
 
-abbrev most_staffing_of_place : ℕ
-most_staffing_of_place = staffing_weight * most_small
+abbrev most_staffing_of_slot : ℕ
+most_staffing_of_slot = staffing_weight * most_small
 
 abbrev most_staffing_of_shift : ℕ
-most_staffing_of_shift = most_skills * most_staffing_of_place
+most_staffing_of_shift = most_skills * most_staffing_of_slot
 
 abbrev most_staffing_of_day : ℕ
 most_staffing_of_day = most_shifts * most_staffing_of_shift
@@ -34,11 +34,11 @@ staffing_cost_of_day-within c r d small shifts skills = omega (arith, sum_within
     of_shift : ℕ → ℕ
     of_shift s = sum_below (skill_count c) (missing_at s)
 
-    skill : (s k : ℕ) → missing_at s k ≤ most_staffing_of_place
+    skill : (s k : ℕ) → missing_at s k ≤ most_staffing_of_slot
     skill s k = omega (arith, (small.needs d s k).optimum)
 
     shift : (s : ℕ) → of_shift s ≤ most_staffing_of_shift
-    shift s = omega (arith, sum_within (skill_count c) most_staffing_of_place (missing_at s) (λ k h. skill s k))
+    shift s = omega (arith, sum_within (skill_count c) most_staffing_of_slot (missing_at s) (λ k h. skill s k))
 
 pub staffing_cost-within : (c : Meaning) (r : Rows) → HasSmallNumbers c → shift_count c ≤ most_shifts → skill_count c ≤ most_skills → day_count c ≤ most_days → staffing_cost c r ≤ most_staffing
 staffing_cost-within c r small shifts skills days =
@@ -46,11 +46,11 @@ staffing_cost-within c r small shifts skills days =
 
 -- ---- one nurse
 
--- the missing and the extra days of all runs of a kind
+-- the most missing and extra days of all runs of a kind
 abbrev most_run_violations : ℕ
 most_run_violations = most_small + (most_small + 1) * most_days
 
--- the points of working days and of days off together, and those of all shifts
+-- the points for working days and days off together, and those for all shifts
 abbrev most_working_and_free : ℕ
 most_working_and_free = max working_run_weight free_run_weight * most_run_violations
 
@@ -69,7 +69,7 @@ most_kept = most_keep * most_days
 abbrev most_split : ℕ
 most_split = split_weight * most_weeks
 
--- the assignments that are missing, and those that are extra with the history's
+-- the points for missing assignments, and for extra ones with the history's
 abbrev most_totals : ℕ
 most_totals = assignment_weight * most_small + assignment_weight * (most_small + most_days)
 
@@ -152,5 +152,5 @@ penalty-at_most c r small shifts skills weeks nurses fit =
     let kept = over_nurses-within c r (keep_cost c) most_kept (λ n days d. keep_cost-within c n days small d) few in
     omega (arith, staffing_cost-within c r small shifts skills (omega arith), together, runs, off_requests, splits, total, weekends, wishes, kept)
 
-pub penalty-within : (c : Meaning) (r : Rows) → HasSmallNumbers c → shift_count c ≤ most_shifts → skill_count c ≤ most_skills → week_count c ≤ most_weeks → nurse_count c ≤ most_nurses → fits_case c r ≡ true → total_cost (costs_of c r) < penalty_room
+pub penalty-within : (c : Meaning) (r : Rows) → HasSmallNumbers c → shift_count c ≤ most_shifts → skill_count c ≤ most_skills → week_count c ≤ most_weeks → nurse_count c ≤ most_nurses → fits_case c r ≡ true → total_cost (costs_of c r) < penalty_limit
 penalty-within c r small shifts skills weeks nurses fit = omega (arith, penalty-at_most c r small shifts skills weeks nurses fit)

@@ -1,4 +1,4 @@
--- How the counts over a row grow from day to day.
+-- How the counts over a row change from day to day.
 use Rattle.std.proofs.Common.{◌≡◌, ◌∙◌, ◌+◌, Bool, ℕ, suc, ap, arith, if◌then◌else◌, sym, Option}
 use Rattle.std.proofs.Math.ListN.{get_or-map}
 use Rattle.roster_instance.specs.Choices.{days_of, shift_of}
@@ -12,13 +12,13 @@ use Rattle.roster_instance.specs.declared.choice.Shift.{Shift}
 use Rattle.roster_instance.specs.declared.rules.Limits.{Limits}
 use Rattle.roster_rules.proofs.RunLaw as law
 
--- a sum with one number more
+-- a sum with one more number
 pub sum_more : (f : ℕ → ℕ) (n sum more : ℕ) → sum ≡ sum_below n f → more ≡ f n → sum + more ≡ sum_below (n + 1) f
 sum_more f n sum more sum_is more_is =
     let one : suc n ≡ n + 1 = omega arith in
     (λ i. sum_is i + more_is i) ∙ ap (λ k. sum_below k f) one
 
--- the shift of a day, by the choice
+-- the shift of a day, from its choice
 pub shift_of_day : (row : Row) (d : ℕ) (shift : Option Shift) → shift ≡ shift_of (choice_on row d) → shift ≡ shift_on (days_of row) d
 shift_of_day row d shift is = is ∙ sym (get_or-map shift_of row d Off)
 

@@ -1,4 +1,4 @@
--- A row of days with one day more.
+-- A row with one more day.
 use Rattle.std.proofs.Common.{◌≡◌, refl, arith, ℕ, suc, ◌<◌, ◌≤◌, [], ◌∷◌, ◌++◌, length, Option, None}
 use Rattle.std.proofs.lemmas.List.{get_or_append_left, get_or_push, get_or_past, length-append}
 use Rattle.roster_instance.specs.declared.choice.Shift.{Shift}

@@ -1,4 +1,4 @@
--- The first of the least members of a list: the function gives it, and what it is determines it.
+-- The first of the least members of a list: the function returns it, and the property determines it.
 use Rattle.std.proofs.Common.{◌≡◌, refl, ap, subst, arith, ℕ, ◌<◌, ◌≤◌, Bool, true, false, List, [], ◌∷◌, ◌++◌, Option, Some, None, nat_lt, if◌then◌else◌}
 use Rattle.std.specs.List.{All}
 use Rattle.std.proofs.lemmas.Bool.{ltb-true, ltb-false, lt-ltb, le-ltb}
@@ -9,7 +9,7 @@ use Rattle.roster_rules.specs.AllowedRows.{IsFirstLeast, cheaper_of, first_least
 at_first : {A : Type 0} (cost : A → ℕ) (x : A) (xs : List A) → All (λ y. cost x ≤ cost y) xs → IsFirstLeast cost (x ∷ xs) x
 at_first cost x xs h = record { before = []; after = xs; split = refl; dearer = All-nil (λ y. cost x < cost y); least = h }
 
--- the answer stands after a dearer one
+-- the answer is after a dearer member
 following : {A : Type 0} (cost : A → ℕ) (x y : A) (xs : List A) → cost y < cost x → IsFirstLeast cost xs y → IsFirstLeast cost (x ∷ xs) y
 following cost x y xs h f = record {
   before = x ∷ f.before;
@@ -47,7 +47,7 @@ found {A} cost (y ∷ xs) x e =
     let same : cheaper_of cost y (first_least cost xs) ≡ x = cc in
     subst P same (found_after cost y xs (first_least cost xs) refl (found cost xs))
 
--- ---- the other way
+-- ---- the converse
 
 not_cheaper : {A : Type 0} (cost : A → ℕ) (x y : A) → cost x ≤ cost y → cheaper_of cost x (Some y) ≡ x
 not_cheaper cost x y h = rw (le-ltb (cost y) (cost x) h)

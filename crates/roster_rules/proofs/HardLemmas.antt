@@ -1,4 +1,4 @@
--- The first of the faults at each number below another.
+-- The first of the faults at each number below a bound.
 use Rattle.std.proofs.Common.{◌≡◌, ◌∙◌, ◌+◌, ◌-◌, ◌<◌, Bool, true, false, ℕ, suc, refl, sym, ap, arith, List, [], ◌∷◌, ◌++◌, Option, Some, None}
 use Rattle.std.specs.List.{flat_map, range_with_len}
 use Rattle.std.specs.Option.{option_or}
@@ -30,11 +30,11 @@ first_where b fault e = ap (λ c. first_fault (fault_if c fault)) (sym e)
 pub none_where : {F : Type 0} (b : Bool) (fault : F) → b ≡ false → first_fault (fault_if b fault) ≡ None
 none_where b fault e = ap (λ c. first_fault (fault_if c fault)) e
 
--- one number more, without a fault
+-- one more number, without a fault
 pub below_more : {F : Type 0} (f : ℕ → List F) (i : ℕ) → below i f ≡ [] → first_fault (f i) ≡ None → below (i + 1) f ≡ []
 below_more f i none none_here = flat_map-range_more f i ∙ both_none (below i f) (f i) none (none_of-none (f i) none_here)
 
--- the first fault of a number after numbers without any
+-- the first fault at a number, if the numbers before it have none
 pub below_first : {F : Type 0} (f : ℕ → List F) (n i : ℕ) (fault : F) → i < n → below i f ≡ [] → Some fault ≡ first_fault (f i) → Some fault ≡ first_fault (below n f)
 below_first f n i fault within none first =
     let rest = flat_map f (range_with_len (i + 1) (n - (i + 1))) in
@@ -51,6 +51,6 @@ below_first f n i fault within none first =
 pub shift_before_more : (last : Option Shift) (days : Days) (day : ℕ) → shift_before last days (day + 1) ≡ shift_on days day
 shift_before_more last days day = grind arith
 
--- the shift of a day, by the row
+-- the shift of a day, from the row
 pub shift_on_row : (r : Rows) (nurse day : ℕ) (row : Row) (shift : Option Shift) → row ≡ row_of r nurse → shift ≡ shift_of (choice_on row day) → shift ≡ shift_on (days_of_nurse r nurse) day
 shift_on_row r nurse day row shift is shift_is = shift_is ∙ ap (λ (own : Row). shift_of (choice_on own day)) is ∙ sym (get_or-map shift_of (row_of r nurse) day Off)

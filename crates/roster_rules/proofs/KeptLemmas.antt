@@ -1,4 +1,4 @@
--- What a roster that is kept costs where it costs no points, and on a day that is another.
+-- What a roster that is kept costs at 0 points, and on a day that differs from it.
 use Rattle.std.proofs.Common.{◌≡◌, ◌+◌, ℕ, zero, suc, Bool, true, false, ap₂, refl, Option, if◌then◌else◌}
 use Rattle.roster_instance.specs.declared.choice.Shift.{Shift}
 use Rattle.roster_instance.specs.Counting.{sum_below}
@@ -10,7 +10,7 @@ free_if : (kept : Bool) (keep : ℕ) → keep ≡ 0 → (if kept then 0 else kee
 free_if true keep none = refl
 free_if false keep none = none
 
--- at no points no day costs anything
+-- at 0 points no day costs anything
 pub free_at_no_points : (c : Meaning) (n d : ℕ) (shift : Option Shift) → c.keep ≡ 0 → keep_cost_on c n d shift ≡ 0
 free_at_no_points c n d shift none = free_if (is_kept c n d shift) c.keep none
 

@@ -1,4 +1,4 @@
--- A roster with one row of the case replaced fits the case.
+-- A roster that fits the case still fits it after one row is replaced by a row of the case.
 use Rattle.std.proofs.Common.{◌≡◌, ◌∙◌, ◌==◌, ℕ, true, length, length-set}
 use Rattle.std.specs.List.{list_all}
 use Rattle.std.proofs.lemmas.Bool.{and_from, and_parts, eq-eqb, eqb-true}

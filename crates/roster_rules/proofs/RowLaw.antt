@@ -1,4 +1,5 @@
--- The violations of runs of a row with one day more: those of its first days don't depend on the days after them.
+-- The violations of runs in a row with one more day: what the first days give doesn't depend on the days
+-- after them.
 use Rattle.std.proofs.Common.{◌≡◌, ap, sym, ◌∙◌, arith, ℕ, zero, suc, ◌+◌, ◌<◌, Bool, [], ◌∷◌, ◌++◌, length, if◌then◌else◌, Option}
 use Rattle.roster_instance.specs.declared.choice.Shift.{Shift}
 use Rattle.roster_instance.specs.declared.rules.Limits.{Limits}

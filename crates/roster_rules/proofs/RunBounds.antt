@@ -1,6 +1,7 @@
--- How many violations the runs of a row can have, where the numbers of an instance are small: for each day of the kind one more
--- than the greatest small number. So the runs of all shifts together have no more than those of one, since a day has one
--- shift at most, and those of working days and of days off together no more than those of one, since a day is one of them.
+-- A bound for the violations of the runs in a row, given that the numbers of an instance are small: for each
+-- day of the kind one more than the greatest small number. A day has one shift at most, so the runs of all
+-- shifts together have no more violations than this allows for one shift. A day is either worked or off, so
+-- the same holds for the runs of working days and of days off together.
 use Rattle.std.proofs.Common.{◌≡◌, refl, arith, ℕ, zero, suc, ◌+◌, ◌-◌, ◌*◌, ◌<◌, ◌≤◌, Bool, true, false, not, nat_lt, ◌==◌, mul-add, length, if◌then◌else◌, Option, Some, None}
 use Rattle.std.proofs.lemmas.Bool.{eqb-true, ne_eqb}
 use Rattle.roster_instance.specs.declared.choice.Shift.{Shift}
@@ -42,12 +43,12 @@ sum_times : (n a : ℕ) (f : ℕ → ℕ) → sum_below n (λ k. a * f k) ≡ a 
 sum_times zero a f = omega arith
 sum_times (suc n) a f = omega (arith, sum_times n a f, mul-add a (sum_below n f) (f n))
 
--- of two sums with n numbers each, one is at most the other if each of its numbers is
+-- one sum of n numbers is at most another if each of its numbers is
 pub sum_compared : (n : ℕ) (f g : ℕ → ℕ) → ((k : ℕ) → f k ≤ g k) → sum_below n f ≤ sum_below n g
 sum_compared zero f g h = omega arith
 sum_compared (suc n) f g h = omega (arith, sum_compared n f g h, h n)
 
--- one number at most counts
+-- at most one of the numbers counts
 one_more : (n t m : ℕ) (q : Bool) → (t == n) ≡ q → sum_below n (λ s. if t == s then m else 0) ≤ m → sum_below n (λ s. if t == s then m else 0) + (if q then m else 0) ≤ m
 one_more n t m true e h =
     let at : t ≡ n = eqb-true t n e in
@@ -61,11 +62,11 @@ sum_of_one (suc n) t m = one_more n t m (t == n) refl (sum_of_one n t m)
 
 -- ---- runs
 
--- what a run of this length may still owe when it ends
+-- the most that a run of this length may still owe when it ends
 abbrev debt : ℕ → ℕ
 debt run = if nat_lt 0 run then most_small else 0
 
--- a day of the kind is one extra day at most, and may begin a debt; another day pays no more than the debt
+-- a day of the kind is at most one extra day, and may begin a debt; another day pays no more than the debt
 day_within : (l : Limits) (run : ℕ) (q : Bool) → AreSmall l → day_violations l run q + debt (if q then run + 1 else 0) ≤ debt run + (most_small + 1) * one_if q
 day_within l run true small =
     let one : one_if (nat_lt l.greatest (run + 1)) ≤ 1 = where_within (nat_lt l.greatest (run + 1)) 1 1 (omega arith) in
@@ -87,7 +88,7 @@ runs_and_debt l b p (suc d) small =
 runs_within : (l : Limits) (b : ℕ) (p : ℕ → Bool) (d : ℕ) → AreSmall l → run_violations l b p d ≤ debt b + (most_small + 1) * count_below d p
 runs_within l b p d small = omega (arith, runs_and_debt l b p d small)
 
--- ---- working days and days off together: each day is one of them, and so are the days before day 0
+-- ---- working days and days off together: each day is one or the other, and so are the days before day 0
 
 one_of : (q : Bool) → one_if q + one_if (not q) ≡ 1
 one_of true = refl
@@ -112,7 +113,7 @@ both_runs_within working free before days small_working small_free =
       all_days days (length days),
     )
 
--- ---- the shifts together: each day has one at most, and so have the days before day 0
+-- ---- all shifts together: each day has at most one, and so has each day before day 0
 
 shift_of_day : (n : ℕ) (o : Option Shift) → sum_below n (λ s. one_if (is_shift s o)) ≤ 1
 shift_of_day n None = omega (arith, sum_zero n (λ s. 0) (λ s h. refl))

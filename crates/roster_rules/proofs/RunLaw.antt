@@ -1,4 +1,5 @@
--- How the violations of runs and the open run grow by one day: only the last two days count otherwise than they did.
+-- How one more day changes the violations of runs and the open run: only the last two days count differently
+-- than before.
 use Rattle.std.proofs.Common.{◌≡◌, refl, ap, ◌∙◌, arith, ℕ, zero, suc, ◌+◌, ◌-◌, ◌<◌, ◌≤◌, Bool, true, false, not, ◌&&◌, nat_lt, nat_le, ◌==◌, if◌then◌else◌}
 use Rattle.std.proofs.lemmas.Bool.{lt-ltb, le-ltb, le-leb, lt-leb, eq-eqb, ne_eqb}
 use Rattle.roster_instance.specs.declared.rules.Limits.{Limits}
@@ -53,7 +54,7 @@ grown b p (suc m) =
 
 -- ---- the violations
 
--- what a run that ends on day j owes
+-- what the run that ends on day j owes
 abbrev owed : Limits → ℕ → (ℕ → Bool) → ℕ → ℕ → ℕ
 owed l b p d j = if ends p d j then over l b (start p j) j + under l b d (start p j) j else 0
 
@@ -74,12 +75,12 @@ owed_before : (l : Limits) (b : ℕ) (p : ℕ → Bool) (m j : ℕ) → j < m �
 owed_before l b p m j h =
     rw (lt-ltb (suc j) (suc (suc m)) (omega arith), lt-ltb (suc j) (suc m) (omega arith), ne_eqb (suc j) (suc (suc m)) (λ e. omega arith), ne_eqb (suc j) (suc m) (λ e. omega arith))
 
--- the last day's run doesn't owe its missing days
+-- a run that ends on the last day doesn't owe its missing days
 at_last : (m x y : ℕ) (q r : Bool) → (if q && not (nat_lt (suc m) (suc m) && r) then x + (if suc m == suc m then 0 else y) else 0) ≡ (if q then x else 0)
 at_last m x y true r = rw (le-ltb (suc m) (suc m) (omega arith), eq-eqb (suc m) (suc m) refl) (omega arith)
 at_last m x y false r = refl
 
--- one day later it does, where it ended
+-- with one more day it does, if it ended there
 later : (m x y : ℕ) (q r : Bool) → (if q && not (nat_lt (suc m) (suc (suc m)) && r) then x + (if suc m == suc (suc m) then 0 else y) else 0) ≡ (if q && not r then x + y else 0)
 later m x y q r = rw (lt-ltb (suc m) (suc (suc m)) (omega arith), ne_eqb (suc m) (suc (suc m)) (λ e. omega arith))
 
@@ -103,7 +104,7 @@ over_next : (l : Limits) (b s m : ℕ) (q : Bool) → s ≤ m → over l b (if q
 over_next l b s m true h = over_grows l b s m h
 over_next l b s m false h = over_at_first l b m ∙ omega arith
 
--- both last days together, where x is what the run of the day before has too much, and n its length
+-- the last two days together; x is the number of extra days of the run up to the day before, and n its length
 last_two : (l : Limits) (x n : ℕ) (q r : Bool) → 0 < n → (if q && not r then x + (l.least - n) else 0) + (if r then (if q then x else 0) + one_if (nat_lt l.greatest ((if q then n else 0) + 1)) else 0) ≡ (if q then x else 0) + day_violations l (if q then n else 0) r
 last_two l x n true true h = omega arith
 last_two l x n true false h = rw (lt-ltb 0 n h) (omega arith)
@@ -124,7 +125,7 @@ sum_grows l b p m =
     let two = last_two l x n (p m) (p (suc m)) (omega arith) in
     rw (open_after b p m) (omega (arith, before, was, is, new, two))
 
--- the first day: the border's run goes on, or owes its missing days
+-- the first day: the run of the border goes on, or owes its missing days
 over_on_day_0 : (l : Limits) (b : ℕ) → over l b 0 0 ≡ one_if (nat_lt l.greatest (b + 1))
 over_on_day_0 l b =
     let at : place b 0 0 ≡ b + 1 = omega arith in

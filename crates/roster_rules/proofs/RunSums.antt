@@ -1,4 +1,4 @@
--- A sum over runs is a sum over their last days: at most one run reaches a day.
+-- A sum over runs is a sum over their last days, since at most one run contains a day.
 use Rattle.std.proofs.Common.{◌≡◌, refl, ap, ◌∙◌, arith, ℕ, zero, suc, ◌+◌, ◌-◌, ◌<◌, ◌≤◌, Bool, true, false, not, ◌&&◌, ◌||◌, nat_lt, if◌then◌else◌}
 use Rattle.std.proofs.lemmas.Bool.{lt-ltb, le-ltb}
 use Rattle.roster_instance.specs.Counting.{sum_below, all_below}
@@ -23,7 +23,7 @@ sum_where false n f = sum_zero n (λ k. 0) (λ k l. refl)
 
 -- ---- the run of a day
 
--- the day on which the run of day j begins, where day j is of the kind
+-- the day on which the run of day j begins, if day j is of the kind
 abbrev pub start : (ℕ → Bool) → ℕ → ℕ
 start p zero = 0
 start p (suc j) = if p j then start p j else suc j
@@ -51,14 +51,14 @@ further_by true c false false x e = refl
 further_by false c true false x e = refl
 further_by false c false false x e = refl
 
--- a run that reaches day j goes on where the next day is of the kind
+-- a run up to day j goes on if the next day is of the kind
 further : (p : ℕ → Bool) (f : ℕ → ℕ) (i j : ℕ) → i ≤ j → (if begins p i (suc j) then f i else 0) ≡ (if p (suc j) then (if begins p i j then f i else 0) else 0)
 further p f i j h = further_by (all_between p i j) (not (nat_lt 0 i && p (i - 1))) (p (suc j)) (nat_lt (suc j) i) (f i) (le-ltb (suc j) i (omega arith))
 
 here_by : (a t u q r : Bool) → a ≡ true → t ≡ false → u ≡ true → ((a && (t || q)) && not (u && r)) ≡ (q && not r)
 here_by a t u q r e f g = rw (e, f, g)
 
--- and one begins there where day j isn't
+-- and a run begins on the next day if day j isn't of the kind
 here : (p : ℕ → Bool) (j : ℕ) → begins p (suc j) (suc j) ≡ (p (suc j) && not (p j))
 here p j =
     let back : suc j - 1 ≡ j = omega arith in
@@ -73,7 +73,7 @@ first_by : (b : Bool) (x : ℕ) → 0 + (if b && true then x else 0) ≡ (if b t
 first_by true x = omega arith
 first_by false x = refl
 
--- of the days from which the days to j are a run so far, one at most counts
+-- of the days from which all days up to j are a run, at most one counts
 pub one_start : (p : ℕ → Bool) (f : ℕ → ℕ) (j : ℕ) → sum_below (suc j) (λ i. if begins p i j then f i else 0) ≡ (if p j then f (start p j) else 0)
 one_start p f zero = first_by (p 0) (f 0)
 one_start p f (suc j) =

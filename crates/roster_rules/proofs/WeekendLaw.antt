@@ -1,4 +1,4 @@
--- How the worked days and weekends, and the split ones, grow by one day.
+-- How one more day changes the numbers of worked days, worked weekends and split weekends.
 use Rattle.std.proofs.Common.{◌≡◌, ◌≢◌, refl, ap, ◌∙◌, arith, ℕ, suc, ◌+◌, ◌-◌, ◌*◌, ◌/◌, ◌%◌, ◌<◌, ◌≤◌, Bool, true, false, not, ◌&&◌, ◌||◌, [], ◌∷◌, ◌++◌, length, if◌then◌else◌, Option, is_some}
 use Rattle.std.proofs.lemmas.Bool.{eqb-true, eqb-false}
 use Rattle.roster_instance.specs.declared.choice.Shift.{Shift}
@@ -8,7 +8,7 @@ use Rattle.roster_rules.specs.DayLaw.{is_saturday, is_sunday, weekends_more, spl
 use Rattle.roster_rules.proofs.DayMore.{length_more, shift_before_it, shift_of_it, off_past, off_after_it}
 use Rattle.roster_rules.proofs.RunSums.{sum_same}
 
--- v is w with the day d more, which is worked or not as x says
+-- v is w with day d added, and x says whether it is worked
 record More (w v : ℕ → Bool) (d : ℕ) (x : Bool) : Type 0 where
   same : (k : ℕ) → k < d → v k ≡ w k
   at : v d ≡ x
@@ -32,7 +32,7 @@ worked_grow days c =
     let last : one_if (v (length days)) ≡ one_if (is_some c) = ap (λ b. one_if b) m.at in
     ap (λ n. count_below n v) (length_more days c) ∙ omega (arith, before, last)
 
--- ---- weekends, whose count asks f of each
+-- ---- weekends, of which those that pass f are counted
 
 abbrev asked : (Bool → Bool → Bool) → (ℕ → Bool) → ℕ → ℕ
 asked f w v = one_if (f (w (saturday v)) (w (saturday v + 1)))
@@ -68,7 +68,7 @@ one_of_two true x = omega arith
 one_of_two false true = omega arith
 one_of_two false false = refl
 
--- how many weekends have begun when d days stand
+-- the number of weekends that have begun within d days
 begun : (d n : ℕ) → 7 * n ≤ d + 1 → d < 7 * n + 6 → (d + 1) / 7 ≡ n
 begun d n h k = omega arith
 

@@ -18,12 +18,12 @@ same_rows [] (b ∷ bs) = false
 same_rows (a ∷ r) [] = false
 same_rows (a ∷ r) (b ∷ bs) = same_row a b && same_rows r bs
 
--- ---- which row of a nurse is best in a roster, if any, is said by a function, as `best_row` of a case
+-- ---- a function chooses the best row of a nurse, if any; for example `best_row` of a case
 
 abbrev pub BestRows : Type 0
 BestRows = Rows → ℕ → Option Row
 
--- ---- a step puts the nurse's best row in where the roster becomes strictly cheaper
+-- ---- a step puts the nurse's best row in if that makes the roster strictly cheaper
 
 abbrev pub if_cheaper : Meaning → Rows → Rows → Rows
 if_cheaper c r new = if nat_lt (penalty c new) (penalty c r) then new else r
@@ -42,14 +42,15 @@ step c best r n = step_with c r n (best r n)
 unfoldable pub round : Meaning → BestRows → Rows → Rows
 round c best r = fold (step c best) r (range_with_len 0 (nurse_count c))
 
--- ---- a run makes rounds until one changes nothing (settled), or as many as it may (stopped)
+-- ---- a run makes rounds until one changes nothing (settled), or until it has made the given number
+-- (stopped)
 
--- where a run comes to, and whether its last round changed nothing
+-- the roster at the end of a run, and whether its last round changed nothing
 pub record Run : Type 0 where
   pub roster : Rows
   pub is_settled : Bool
 
--- a run that may make so many rounds
+-- a run of at most the given number of rounds
 unfoldable pub run : Meaning → BestRows → ℕ → Rows → Run
 run c best zero r = record { roster = r; is_settled = false }
 run c best (suc rounds) r =
@@ -58,7 +59,7 @@ run c best (suc rounds) r =
 
 -- ---- its log
 
--- what an entry of the log tells
+-- what an entry of the log reports
 pub data Event : Type 0 where
   started : Event
   -- in this round the row of this nurse was replaced
@@ -85,20 +86,22 @@ changes c best k (n ∷ ns) r =
 
 -- the entries of round k
 abbrev pub round_log : Meaning → BestRows → ℕ → Rows → List Entry
-round_log c best k r = changes c best k (range_with_len 0 (nurse_count c)) r ++ entry (round_done k) (round c best r) ∷ []
+round_log c best k r =
+    changes c best k (range_with_len 0 (nurse_count c)) r ++ entry (round_done k) (round c best r) ∷ []
 
 -- the entries of a run whose next round is the k-th
 abbrev pub entries_from : Meaning → BestRows → ℕ → ℕ → Rows → List Entry
 entries_from c best k zero r = entry stopped r ∷ []
 entries_from c best k (suc rounds) r =
     let next = round c best r in
-    round_log c best k r ++ (if same_rows next r then entry settled r ∷ [] else entries_from c best (k + 1) rounds next)
+    round_log c best k r
+    ++ (if same_rows next r then entry settled r ∷ [] else entries_from c best (k + 1) rounds next)
 
--- the log of a run: the start, what each round changed and its end, and how the run ended
+-- the log of a run: the start, the changes and the end of each round, and how the run ended
 unfoldable pub log_of : Meaning → BestRows → ℕ → Rows → List Entry
 log_of c best rounds r = entry started r ∷ entries_from c best 1 rounds r
 
--- the word of the first line; where a roster is kept, a line of its own before it says at how many points
+-- the word of the first line; if a roster is kept, a line before it gives the points for each changed day
 abbrev pub start_word : Meaning → List ℕ
 start_word c = if c.keep == 0 then codes "start" else codes "keep " ++ decimal c.keep ++ codes "\nstart"
 
@@ -110,7 +113,7 @@ event_text c (round_done k) = codes "round " ++ decimal k
 event_text c settled = codes "settled"
 event_text c stopped = codes "stopped"
 
--- a line of a log or of a report: a text, and a number
+-- a line of a log or of a report: a text and a number
 abbrev pub line : List ℕ → ℕ → List ℕ
 line text n = text ++ codes " " ++ decimal n ++ codes "\n"
 

@@ -3,7 +3,7 @@ pub mod HardRules
 pub mod Runs
 pub mod DayLaw
 pub mod Weights
-pub mod Room
+pub mod PenaltyBounds
 pub mod Penalties
 pub mod Prefix
 pub mod AllowedRows

@@ -1,5 +1,6 @@
--- The penalties of the soft rules with their weights, and the penalty of a roster (INRC-II; totals and weekends are counted
--- once, at the end of the horizon, with the history's: our profile; wishes to work, and a roster that is kept, are our own rules).
+-- The penalties of the soft rules with their weights, and the penalty of a roster (INRC-II; that totals and
+-- weekends are counted once, at the end of the horizon, with the history's, is our profile; wishes to work,
+-- and a roster that is kept, are our own rules).
 use Rattle.std.specs.Prelude.{ℕ, ◌+◌, ◌-◌, ◌*◌, ◌%◌, Bool, true, false, not, ◌&&◌, ◌||◌, ◌==◌, if◌then◌else◌, length, Option, Some, None, is_some}
 use Rattle.roster_instance.specs.declared.choice.Shift.{Shift}
 use Rattle.roster_rules.specs.declared.penalties.Costs.{Costs}
@@ -13,14 +14,15 @@ use Rattle.roster_instance.specs.Rosters.{Rows, choice_on, cover, days_of_nurse,
 use Rattle.roster_rules.specs.Runs.{run_violations}
 use Rattle.roster_rules.specs.Weights.{staffing_weight, working_run_weight, shift_run_weight, free_run_weight, off_request_weight, split_weight, assignment_weight, weekend_weight, wish_weight}
 
--- ---- staffing: points for each nurse missing to the optimum of a day, shift and skill
+-- ---- staffing: points for each nurse by whom a slot is short of its optimum
 
--- where so many nurses have each shift and skill of a day: at a place, and on the whole day
-abbrev pub staffing_cost_of_place : Meaning → ℕ → (ℕ → ℕ → ℕ) → ℕ → ℕ → ℕ
-staffing_cost_of_place c d have s k = staffing_weight * (optimum c d s k - have s k)
+-- the cost of a slot, and of a whole day, if `have` gives the cover of each shift and skill
+abbrev pub staffing_cost_of_slot : Meaning → ℕ → (ℕ → ℕ → ℕ) → ℕ → ℕ → ℕ
+staffing_cost_of_slot c d have s k = staffing_weight * (optimum c d s k - have s k)
 
 abbrev pub staffing_cost_by : Meaning → ℕ → (ℕ → ℕ → ℕ) → ℕ
-staffing_cost_by c d have = sum_below (shift_count c) (λ s. sum_below (skill_count c) (staffing_cost_of_place c d have s))
+staffing_cost_by c d have =
+    sum_below (shift_count c) (λ s. sum_below (skill_count c) (staffing_cost_of_slot c d have s))
 
 -- a day of a roster
 abbrev pub staffing_cost_of_day : Meaning → Rows → ℕ → ℕ
@@ -30,30 +32,34 @@ staffing_cost_of_day c r d = staffing_cost_by c d (cover r d)
 abbrev pub staffing_cost : Meaning → Rows → ℕ
 staffing_cost c r = sum_below (day_count c) (staffing_cost_of_day c r)
 
--- ---- runs: how many days of a kind stand right before day 0
+-- ---- runs: how many days of a kind come right before day 0
 
--- the days off before the first Monday, where the history ends with some
+-- the days off before the first Monday, if the history ends with some
 abbrev pub free_before : Border → ℕ
 free_before (Free n) = n
 free_before (Working s own all) = 0
 
--- the working days before it
+-- the working days before the first Monday
 abbrev pub worked_before : Border → ℕ
 worked_before (Free n) = 0
 worked_before (Working s own all) = all
 
--- the days with this shift before it, where it is the history's last
+-- the days with this shift before the first Monday, if it is the history's last
 abbrev pub shift_run_before : ℕ → Border → ℕ
 shift_run_before s (Free n) = 0
 shift_run_before s (Working t own all) = if t.0 == s then own else 0
 
 -- S2: points for each missing or extra day of a run of working days
 abbrev pub working_run_cost : Meaning → ℕ → Days → ℕ
-working_run_cost c n days = working_run_weight * run_violations (contract_of c n).working (worked_before (past_of c n).border) (works days) (length days)
+working_run_cost c n days =
+    working_run_weight
+    * run_violations (contract_of c n).working (worked_before (past_of c n).border) (works days) (length days)
 
 -- points for each missing or extra day of a run of one shift
 abbrev pub run_cost_of_shift : Meaning → ℕ → Days → ℕ → ℕ
-run_cost_of_shift c n days s = shift_run_weight * run_violations (run_of_shift c s) (shift_run_before s (past_of c n).border) (has_shift s days) (length days)
+run_cost_of_shift c n days s =
+    shift_run_weight * run_violations (run_of_shift c s) (shift_run_before s (past_of c n).border)
+    (has_shift s days) (length days)
 
 -- S2: the same for all shifts
 abbrev pub shift_run_cost : Meaning → ℕ → Days → ℕ
@@ -61,11 +67,13 @@ shift_run_cost c n days = sum_below (shift_count c) (run_cost_of_shift c n days)
 
 -- S3: points for each missing or extra day of a run of days off
 abbrev pub free_run_cost : Meaning → ℕ → Days → ℕ
-free_run_cost c n days = free_run_weight * run_violations (contract_of c n).free (free_before (past_of c n).border) (is_off days) (length days)
+free_run_cost c n days =
+    free_run_weight
+    * run_violations (contract_of c n).free (free_before (past_of c n).border) (is_off days) (length days)
 
--- ---- off requests: points for each assignment against one, once, however many name it
+-- ---- off requests: points for each assignment against one, counted once, however many requests name it
 
--- an off request names the shift, if one is worked
+-- an off request names the shift that is worked, if any
 abbrev pub breaks_off_request : Meaning → ℕ → ℕ → Option Shift → Bool
 breaks_off_request c n d None = false
 breaks_off_request c n d (Some s) = has_off_request c n d s.0
@@ -78,11 +86,15 @@ off_request_cost_on c n d shift = if breaks_off_request c n d shift then off_req
 abbrev pub off_request_cost : Meaning → ℕ → Days → ℕ
 off_request_cost c n days = sum_below (length days) (λ d. off_request_cost_on c n d (shift_on days d))
 
--- ---- wishes to work (our own rule): points for each day with a wish that isn't met, once, however many there are
+-- ---- wishes to work (our own rule): points for each day with a wish that isn't met, counted once, however
+-- many wishes there are
 
--- Each wish of a nurse for a day is met: one with `Any` where the nurse works, one for a shift where the nurse works that shift.
+-- Each wish of a nurse for a day is met: a wish with `Any` if the nurse works, a wish for a shift if the
+-- nurse works that shift.
 abbrev pub meets_wishes : Meaning → ℕ → ℕ → Option Shift → Bool
-meets_wishes c n d shift = (not (has_wish_for_any c n d) || is_some shift) && all_below (shift_count c) (λ s. not (has_wish c n d s) || is_shift s shift)
+meets_wishes c n d shift =
+    (not (has_wish_for_any c n d) || is_some shift)
+    && all_below (shift_count c) (λ s. not (has_wish c n d s) || is_shift s shift)
 
 abbrev pub wish_cost_on : Meaning → ℕ → ℕ → Option Shift → ℕ
 wish_cost_on c n d shift = if meets_wishes c n d shift then 0 else wish_weight
@@ -91,7 +103,7 @@ wish_cost_on c n d shift = if meets_wishes c n d shift then 0 else wish_weight
 abbrev pub wish_cost : Meaning → ℕ → Days → ℕ
 wish_cost c n days = sum_below (length days) (λ d. wish_cost_on c n d (shift_on days d))
 
--- ---- a roster that is kept (our own rule): so many points for each day that becomes another
+-- ---- a roster that is kept (our own rule): `keep` points for each day that differs from it
 
 -- both are off, or work the same shift, with whatever skill
 abbrev pub same_shift : Option Shift → Option Shift → Bool
@@ -100,7 +112,7 @@ same_shift None (Some t) = false
 same_shift (Some s) None = false
 same_shift (Some s) (Some t) = s.0 == t.0
 
--- the day is what it is in the roster that is kept
+-- the day has the shift of the roster that is kept
 abbrev pub is_kept : Meaning → ℕ → ℕ → Option Shift → Bool
 is_kept c n d shift = same_shift (shift_of (choice_on (row_of c.base n) d)) shift
 
@@ -113,7 +125,7 @@ keep_cost c n days = sum_below (length days) (λ d. keep_cost_on c n d (shift_on
 
 -- ---- weekends and totals
 
--- S5: points for each weekend of which exactly one day is worked, where the contract wants whole weekends
+-- S5: points for each weekend of which exactly one day is worked, if the contract wants complete weekends
 abbrev pub split_cost : Meaning → ℕ → Days → ℕ
 split_cost c n days = if (contract_of c n).whole_weekends then split_weight * split_weekends days else 0
 
@@ -125,7 +137,7 @@ total_of c n days = (past_of c n).assignments + days_worked days
 abbrev pub weekends_of : Meaning → ℕ → Days → ℕ
 weekends_of c n days = (past_of c n).weekends + worked_weekends days
 
--- points for each assignment missing to the least total, and for each above the greatest
+-- points for each assignment below the least total; below, for each above the greatest
 abbrev pub missing_cost : Meaning → ℕ → ℕ → ℕ
 missing_cost c n total = assignment_weight * ((contract_of c n).total.least - total)
 
@@ -142,13 +154,17 @@ weekends_cost c n days = weekend_weight * (weekends_of c n days - (contract_of c
 
 -- ---- the sums
 
--- a nurse's own part: runs, split weekends, totals and worked weekends
+-- a nurse's own cost: runs, split weekends, totals and worked weekends
 unfoldable pub own_cost : Meaning → ℕ → Days → ℕ
-own_cost c n days = working_run_cost c n days + shift_run_cost c n days + free_run_cost c n days + split_cost c n days + totals_cost c n days + weekends_cost c n days
+own_cost c n days =
+    working_run_cost c n days + shift_run_cost c n days + free_run_cost c n days + split_cost c n days
+    + totals_cost c n days + weekends_cost c n days
 
--- what the nurse's requests cost on a day, and on all days: off requests, wishes to work, and to keep what a roster says
+-- what the nurse's requests cost on a day, and on all days: off requests, wishes to work, and the roster that
+-- is kept
 abbrev pub request_cost_on : Meaning → ℕ → ℕ → Option Shift → ℕ
-request_cost_on c n d shift = off_request_cost_on c n d shift + wish_cost_on c n d shift + keep_cost_on c n d shift
+request_cost_on c n d shift =
+    off_request_cost_on c n d shift + wish_cost_on c n d shift + keep_cost_on c n d shift
 
 abbrev pub request_cost : Meaning → ℕ → Days → ℕ
 request_cost c n days = off_request_cost c n days + wish_cost c n days + keep_cost c n days
@@ -157,7 +173,7 @@ request_cost c n days = off_request_cost c n days + wish_cost c n days + keep_co
 abbrev pub nurse_cost : Meaning → ℕ → Days → ℕ
 nurse_cost c n days = own_cost c n days + request_cost c n days
 
--- one rule over all nurses
+-- one rule for all nurses together
 abbrev pub over_nurses : Meaning → Rows → (ℕ → Days → ℕ) → ℕ
 over_nurses c r rule = sum_below (nurse_count c) (λ n. rule n (days_of_nurse r n))
 
@@ -183,6 +199,7 @@ total_cost k = k.s1 + k.s2 + k.s3 + k.s4 + k.s5 + k.s6 + k.s7 + k.s8 + k.s9
 unfoldable pub penalty : Meaning → Rows → ℕ
 penalty c r = total_cost (costs_of c r)
 
--- each penalty is a multiple of so much: of 5, as the weights are, where what a roster that is kept costs on a day is one too
+-- each penalty is a multiple of this unit: of 5, as each weight is, or of 1 if a roster is kept at a number
+-- of points that isn't a multiple of 5
 unfoldable pub penalty_unit : Meaning → ℕ
 penalty_unit c = if c.keep % 5 == 0 then 5 else 1

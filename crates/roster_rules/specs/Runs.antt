@@ -1,7 +1,7 @@
--- Runs: maximal intervals of the days of one kind, and how far they miss a least and a greatest length. A kind is a test of
--- days, d the horizon, and b how many days of that kind stand in a row right before day 0. A run that goes on from there
--- has b days more. One that ends before day 0 owes its least; one that is open on the last day doesn't (INRC-II; the
--- border is our profile).
+-- Runs: maximal intervals of the days of one kind, and how far they are outside a least and a greatest
+-- length. A kind is a test of days, d is the horizon, and b the number of days of that kind right before day
+-- 0. A run that goes on from there has b days more. One that ends before day 0 owes its least; one that is
+-- open on the last day doesn't (INRC-II; the border is our profile).
 use Rattle.std.specs.Prelude.{ℕ, suc, ◌+◌, ◌-◌, Bool, not, ◌&&◌, ◌||◌, ◌==◌, nat_lt, nat_le, if◌then◌else◌}
 use Rattle.roster_instance.specs.declared.rules.Limits.{Limits}
 use Rattle.roster_instance.specs.Counting.{sum_below, all_below, one_if}
@@ -10,7 +10,7 @@ use Rattle.roster_instance.specs.Counting.{sum_below, all_below, one_if}
 abbrev pub all_between : (ℕ → Bool) → ℕ → ℕ → Bool
 all_between p i j = all_below (suc j) (λ k. nat_lt k i || p k)
 
--- and neither the day before nor the day after is, where there is one
+-- the same, and neither the day before nor the day after is of the kind, if there is one
 abbrev pub is_run : (ℕ → Bool) → ℕ → ℕ → ℕ → Bool
 is_run p d i j = all_between p i j && not (nat_lt 0 i && p (i - 1)) && not (nat_lt (suc j) d && p (suc j))
 
@@ -25,7 +25,7 @@ place b i k = k - i + 1 + (if i == 0 then b else 0)
 abbrev pub over : Limits → ℕ → ℕ → ℕ → ℕ
 over l b i j = sum_below (suc j) (λ k. one_if (nat_le i k && nat_lt l.greatest (place b i k)))
 
--- its missing days
+-- the missing days of the run
 abbrev pub under : Limits → ℕ → ℕ → ℕ → ℕ → ℕ
 under l b d i j = if suc j == d then 0 else l.least - place b i j
 
@@ -37,6 +37,6 @@ border_under l b p d = if nat_lt 0 b && nat_lt 0 d && not (p 0) then l.least - b
 unfoldable pub run_violations : Limits → ℕ → (ℕ → Bool) → ℕ → ℕ
 run_violations l b p d = sum_over_runs p d (λ i j. over l b i j + under l b d i j) + border_under l b p d
 
--- the length of the run that is open at the end, 0 where there is none
+-- the length of the run that is open at the end, 0 if there is none
 unfoldable pub open_run : ℕ → (ℕ → Bool) → ℕ → ℕ
 open_run b p d = if d == 0 then b else sum_over_runs p d (λ i j. if suc j == d then place b i j else 0)

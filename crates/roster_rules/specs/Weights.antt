@@ -2,7 +2,7 @@
 use Rattle.std.specs.Prelude.{ℕ, ◌+◌}
 use Rattle.roster_instance.specs.Limits.{most_keep}
 
--- a nurse missing to the optimum of a day, shift and skill
+-- a nurse by whom a slot is short of its optimum
 abbrev pub staffing_weight : ℕ
 staffing_weight = 30
 
@@ -26,7 +26,7 @@ off_request_weight = 10
 abbrev pub split_weight : ℕ
 split_weight = 30
 
--- an assignment missing to the least total, or above the greatest
+-- an assignment below the least total, or above the greatest
 abbrev pub assignment_weight : ℕ
 assignment_weight = 20
 
@@ -38,6 +38,6 @@ weekend_weight = 30
 abbrev pub wish_weight : ℕ
 wish_weight = 10
 
--- what the requests of a nurse cost on a day at most, with what a roster that is kept costs
+-- the most that a nurse's requests can cost on a day, including a roster that is kept
 abbrev pub most_request : ℕ
 most_request = off_request_weight + wish_weight + most_keep

@@ -1,4 +1,5 @@
-//! What the hard rules ask of a nurse: the skill that is worked with, no work in an absence, and the shift before.
+//! What the hard rules ask of a nurse: the skill for the work, no work in an absence, and a shift that may
+//! follow the one before.
 
 ghost use Rattle.std.specs.Prelude.{◌≡◌, ◌<◌, ◌==◌};
 ghost use Rattle.std.specs.List.{list_any};
@@ -17,7 +18,7 @@ pub fn last_shift(border: Border) -> Option<Shift>
     }
 }
 
-/// Whether a nurse with these skills can work so.
+/// Whether a nurse with these skills has the skill for a choice.
 pub fn is_able(skills: &[Skill], choice: Choice) -> bool
     ensures { result ≡ is_able skills.now choice }
 {
@@ -27,7 +28,7 @@ pub fn is_able(skills: &[Skill], choice: Choice) -> bool
     }
 }
 
-/// Whether a nurse may do so on a day: who is absent doesn't work.
+/// Whether a nurse's absence allows a choice on a day: an absent nurse doesn't work.
 pub fn is_here(case: &Case, nurse: usize, day: u16, choice: Choice) -> bool
     requires { nurse < nurse_count case.now }
     ensures { result ≡ is_here case.now nurse day choice }
@@ -38,7 +39,7 @@ pub fn is_here(case: &Case, nurse: usize, day: u16, choice: Choice) -> bool
     }
 }
 
-/// Whether a nurse has the skill for a choice, and isn't absent where it is work.
+/// Whether a nurse has the skill for a choice, and isn't absent if it is work.
 pub fn may_take(case: &Case, nurse: usize, day: u16, choice: Choice) -> bool
     requires { nurse < nurse_count case.now }
     ensures { result ≡ may_take case.now nurse day choice }

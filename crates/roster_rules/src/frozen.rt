@@ -1,4 +1,4 @@
-//! Which days of a nurse stay.
+//! Which days of a nurse are frozen.
 
 ghost use Rattle.std.specs.Prelude.{◌≡◌, ◌<◌};
 ghost use Rattle.roster_instance.specs.Meaning.{nurse_count};

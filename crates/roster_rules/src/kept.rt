@@ -6,7 +6,8 @@ ghost use Rattle.roster_rules.specs.Penalties.{is_kept, keep_cost_on};
 
 use roster_instance::{Case, Shift};
 
-/// S9. The points for a day of a nurse by the shift that is worked then, or by none: none where the roster that is kept has the same.
+/// S9. The points for a day of a nurse with this shift, or with none: 0 if the roster that is kept has the
+/// same shift.
 #[tactic(auto, using(crate::proofs::KeptLemmas::free_at_no_points))]
 pub fn keep_cost_on(case: &Case, nurse: usize, day: u16, shift: Option<Shift>) -> u32
     ensures cost { result ≡ keep_cost_on case.now nurse day shift }
@@ -22,7 +23,7 @@ pub fn keep_cost_on(case: &Case, nurse: usize, day: u16, shift: Option<Shift>) -
     keep as u32
 }
 
-/// Whether a day of a nurse with this shift, or with none, is what it is in the roster that is kept.
+/// Whether a day of a nurse with this shift, or with none, is as in the roster that is kept.
 fn is_kept(case: &Case, nurse: usize, day: u16, shift: Option<Shift>) -> bool
     ensures { result ≡ is_kept case.now nurse day shift }
 {

@@ -9,8 +9,8 @@ ghost use Rattle.roster_rules.specs.Runs.{open_run, run_violations};
 ghost use Rattle.roster_instance.specs.declared.choice.Shift.{Shift};
 ghost use Rattle.roster_instance.specs.declared.rules.Limits.{Limits};
 
-/// The violations of the runs of a kind of days, and the run that is open, after one day more. They begin with none and
-/// with the run of the border.
+/// One more day: the violations of the runs of a kind of days, and the run that is open. They begin with no
+/// violations and with the run of the border.
 pub fn runs_grow_by_a_day()
     ensures no_violations { (l : Limits) (b : ℕ) (p : ℕ → Bool) → run_violations l b p 0 ≡ 0 }
     ensures border { (b : ℕ) (p : ℕ → Bool) → open_run b p 0 ≡ b }
@@ -21,7 +21,7 @@ pub fn runs_grow_by_a_day()
         open_run b p (suc d) ≡ (if p d then open_run b p d + 1 else 0) }
 {}
 
-/// The same of a row with one day more, where the kind is a test of the day's shift.
+/// The same for a row with one more day, if the kind is a test of the day's shift.
 pub fn runs_of_a_row_grow_by_a_day()
     ensures violations { (l : Limits) (b : ℕ) (t : Option Shift → Bool) (days : Days)
         (c : Option Shift) → violations_in l b t (days ++ c ∷ []) ≡ violations_in l b t days
@@ -30,7 +30,7 @@ pub fn runs_of_a_row_grow_by_a_day()
         open_run_in b t (days ++ c ∷ []) ≡ (if t c then open_run_in b t days + 1 else 0) }
 {}
 
-/// The worked days, the worked weekends and the split ones of a row with one day more.
+/// The worked days, the worked weekends and the split ones of a row with one more day.
 pub fn weekends_grow_by_a_day()
     ensures worked { (days : Days) (c : Option Shift) →
         days_worked (days ++ c ∷ []) ≡ days_worked days + one_if (is_some c) }

@@ -1,9 +1,11 @@
-//! The hard and the soft rules: their definitions, weights, breaches and costs, with the laws of a day more.
+//! The hard and the soft rules: their definitions, weights, breaches and costs, with the laws for one more
+//! day.
 //!
-//! The hard rules with their order are defined in `specs/HardRules.antt`, the soft ones in `specs/Penalties.antt`, over runs
-//! of days (`specs/Runs.antt`) and weights (`specs/Weights.antt`), what the first days of a row owe in `specs/Prefix.antt`,
-//! best rows in `specs/AllowedRows.antt`, and the improver's runs in `specs/Improver.antt`. The functions that count by these
-//! rules stand in `roster_costs` and in `roster_state`. The laws by which they may go day by day stand in `src/laws.rt`.
+//! The hard rules with their order are defined in `specs/HardRules.antt`, the soft ones in
+//! `specs/Penalties.antt`, over runs of days (`specs/Runs.antt`) and weights (`specs/Weights.antt`); what the
+//! first days of a row cost in `specs/Prefix.antt`, best rows in `specs/AllowedRows.antt`, and the improver's
+//! runs in `specs/Improver.antt`. The functions that count by these rules are in `roster_costs` and in
+//! `roster_state`. The laws that let them go day by day are in `src/laws.rt`.
 #![tactic(auto)]
 
 mod able;

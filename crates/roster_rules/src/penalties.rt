@@ -4,8 +4,9 @@ ghost use Rattle.std.specs.Prelude.{◌≡◌, min};
 ghost use Rattle.roster_bundle.specs.Limits.{greatest_u64};
 ghost use Rattle.roster_rules.specs.Penalties.{total_cost};
 
-/// What each soft rule costs, in penalty points, weights included: staffing below the optimum, runs of work and of shifts,
-/// runs of days off, off requests, split weekends, totals of assignments, worked weekends, wishes to work, a roster that is kept.
+/// What each soft rule costs, in penalty points, weights included: staffing below the optimum, runs of
+/// working days and of shifts, runs of days off, off requests, split weekends, totals of assignments, worked
+/// weekends, wishes to work, a roster that is kept.
 #[derive(Clone, Copy, Debug, Default, PartialEq, Eq)]
 pub struct Costs {
     pub s1: u64,
@@ -20,8 +21,8 @@ pub struct Costs {
 }
 
 impl Costs {
-    /// The sum of all rules. Numbers that no roster costs may add up to more than there is room for; then it is the greatest
-    /// number.
+    /// The sum of all rules. If numbers that no roster costs add up to more than a `u64` holds, it is the
+    /// greatest `u64`.
     pub fn total(&self) -> u64
         ensures { result ≡ min (total_cost self.now) greatest_u64 }
     {

@@ -4,7 +4,7 @@ ghost use Rattle.std.specs.Prelude.{◌≡◌, ℕ, List};
 ghost use Rattle.roster_instance.specs.Rosters.{Row};
 ghost use Rattle.roster_rules.specs.AllowedRows.{IsFirstLeast, first_least};
 
-/// The first of the least rows is one row at most, and it is the one that `first_least` gives.
+/// A list has at most one first of its least rows, and `first_least` returns it.
 pub fn one_first_least_row()
     ensures found { (cost : Row → ℕ) (rows : List Row) (row : Row) →
         first_least cost rows ≡ Some row → IsFirstLeast cost rows row }

@@ -1,6 +1,7 @@
-//! The weights of the soft rules, in penalty points. A roster's penalty is stated by those of `specs/Weights.antt`.
+//! The weights of the soft rules, in penalty points: those of `specs/Weights.antt`, as numbers of the
+//! program.
 
-/// For each nurse missing to the optimum of a day, shift and skill.
+/// For each nurse by whom a slot is short of its optimum.
 pub const STAFFING: u32 = 30;
 
 /// For each missing or extra day of a run of working days.
@@ -18,7 +19,7 @@ pub const OFF_REQUEST: u32 = 10;
 /// For each weekend of which exactly one day is worked.
 pub const SPLIT: u32 = 30;
 
-/// For each assignment missing to the least total, or above the greatest.
+/// For each assignment below the least total, or above the greatest.
 pub const ASSIGNMENT: u32 = 20;
 
 /// For each worked weekend above the greatest number.

@@ -1,4 +1,4 @@
-//! Wishes to work, and what meets them.
+//! Whether wishes to work are met.
 
 ghost use Rattle.std.specs.Prelude.{◌≡◌, ◌<◌};
 ghost use Rattle.roster_instance.specs.Days.{is_shift};
@@ -7,7 +7,7 @@ ghost use Rattle.roster_rules.specs.Penalties.{meets_wishes};
 
 use roster_instance::{Case, Shift};
 
-/// Whether each wish of a nurse for a day is met by the shift that the nurse works then, or by none.
+/// Whether each wish of a nurse for a day is met by the shift that the nurse works on it, or by a day off.
 pub fn meets_wishes(case: &Case, nurse: usize, day: u16, shift: Option<Shift>) -> bool
     requires { nurse < nurse_count case.now }
     ensures { result ≡ meets_wishes case.now nurse day shift }

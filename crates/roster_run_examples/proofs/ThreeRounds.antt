@@ -1,4 +1,4 @@
--- The run of the worked example, a round at a time.
+-- The run of the worked example, round by round.
 use Rattle.std.proofs.Common.{◌≡◌, ◌∙◌, ◌+◌, ℕ, suc, false, true, ap, ap₂, refl, List, [], ◌∷◌, ◌++◌}
 use Rattle.roster_instance.specs.Choices.{all_rows}
 use Rattle.roster_rules.specs.HardRules.{hard_faults}
@@ -18,7 +18,7 @@ run_on : (c : Meaning) (best : BestRows) (m : ℕ) (r next : Rows) → round c b
 unfolding run
 run_on c best m r next e differs = rw (e, differs) refl
 
--- and one that didn't
+-- a round that didn't
 settled_run : (c : Meaning) (best : BestRows) (m : ℕ) (r : Rows) → round c best r ≡ r → same_rows r r ≡ true → run c best (suc m) r ≡ record { roster = r; is_settled = true }
 unfolding run
 settled_run c best m r e same = rw (e, same) refl
@@ -37,31 +37,31 @@ abbrev last : Rows
 last = early_on (0 ∷ 2 ∷ 3 ∷ 4 ∷ []) ∷ early_on (1 ∷ 5 ∷ 6 ∷ []) ∷ []
 
 -- each step, computed once
-abbrev step_of : Rows → ℕ → Rows
-step_of = step mini_of_one_shift best
+abbrev transition_of : Rows → ℕ → Rows
+transition_of = step mini_of_one_shift best
 
-ann_first : step_of all_free ann ≡ with_ann
+ann_first : transition_of all_free ann ≡ with_ann
 unfolding step penalty costs_of run_violations hard_faults all_rows
 ann_first = refl
 
-bob_first : step_of with_ann bob ≡ with_bob
+bob_first : transition_of with_ann bob ≡ with_bob
 unfolding step penalty costs_of run_violations hard_faults all_rows
 bob_first = refl
 
-ann_second : step_of with_bob ann ≡ last
+ann_second : transition_of with_bob ann ≡ last
 unfolding step penalty costs_of run_violations hard_faults all_rows
 ann_second = refl
 
-ann_third : step_of last ann ≡ last
+ann_third : transition_of last ann ≡ last
 unfolding step penalty costs_of run_violations hard_faults all_rows
 ann_third = refl
 
-bob_third : step_of last bob ≡ last
+bob_third : transition_of last bob ≡ last
 unfolding step penalty costs_of run_violations hard_faults all_rows
 bob_third = refl
 
 -- a round is Ann's step and then Bob's
-round_is : (r : Rows) → round mini_of_one_shift best r ≡ step_of (step_of r ann) bob
+round_is : (r : Rows) → round mini_of_one_shift best r ≡ transition_of (transition_of r ann) bob
 unfolding round
 round_is r = refl
 

@@ -19,27 +19,29 @@ abbrev pub a_need : ℕ → ℕ → Need
 a_need minimum optimum = record { minimum = minimum; optimum = optimum }
 
 abbrev pub full : ContractRules
-full = record { total = limits 2 5; working = limits 1 5; free = limits 1 5; weekends = 1; whole_weekends = true }
+full =
+    record
+    { total = limits 2 5; working = limits 1 5; free = limits 1 5; weekends = 1; whole_weekends = true }
 
 -- a nurse with the skill Nurse
 abbrev pub a_nurse : NurseFacts
 a_nurse = record { contract = 0; skills = skill_at 0 ∷ [] }
 
--- who was off for so many days
+-- a nurse who was off for this number of days
 abbrev pub off_for : ℕ → Option Past
 off_for days = Some (record { border = Free days; assignments = 0; weekends = 0 })
 
--- a week that wants one nurse at best on each day, for each of these places, without requests and absences
+-- a week in which each of these slots has an optimum of one nurse on each day, without requests and absences
 abbrev pub week_wanting : List Bool → ℕ → WeekFacts
-week_wanting places nurses = record {
-  needs = map (λ wanted. if wanted then Some (replicate 7 (a_need 0 1)) else None) places;
+week_wanting slots nurses = record {
+  needs = map (λ wanted. if wanted then Some (replicate 7 (a_need 0 1)) else None) slots;
   off_requests = replicate (7 * nurses) no_requests;
   wishes = replicate (7 * nurses) no_requests;
   absences = replicate (7 * nurses) false;
   fixed = replicate (7 * nurses) false;
 }
 
--- each day wants one nurse on Early at best, and Early may not follow Night
+-- each day has an optimum of one nurse on Early, and Early may not follow Night
 abbrev pub mini : Meaning
 mini = record {
   name = codes "mini";
@@ -93,18 +95,21 @@ ann = 0
 abbrev pub bob : ℕ
 bob = 1
 
--- without wishes to work and a roster that is kept
+-- the costs without points for wishes to work and for changed days
 abbrev pub costs : ℕ → ℕ → ℕ → ℕ → ℕ → ℕ → ℕ → Costs
 costs a b c d e f g = record { s1 = a; s2 = b; s3 = c; s4 = d; s5 = e; s6 = f; s7 = g; s8 = 0; s9 = 0 }
 
--- the same with points for wishes to work
+-- the same, with points for wishes to work
 abbrev pub costs_with_wishes : ℕ → Costs → Costs
 costs_with_wishes n k = record k { s8 = n }
 
--- ---- an instance of eight weeks: four shifts, four skills, thirty nurses with one skill each who were off for two days
+-- ---- an instance of eight weeks: four shifts, four skills, thirty nurses with one skill each who were off
+-- for two days
 
 abbrev pub big_contract : ContractRules
-big_contract = record { total = limits 30 44; working = limits 3 5; free = limits 2 3; weekends = 4; whole_weekends = true }
+big_contract =
+    record
+    { total = limits 30 44; working = limits 3 5; free = limits 2 3; weekends = 4; whole_weekends = true }
 
 abbrev pub big_nurse : ℕ → NurseFacts
 big_nurse n = record { contract = 0; skills = skill_at (n % 4) ∷ [] }
@@ -121,7 +126,9 @@ big = record {
   nurse_names = replicate 30 (codes "N");
   nurses = map big_nurse (range_with_len 0 30);
   past = replicate 30 (off_for 2);
-  weeks = replicate 8 (week_wanting (flat_map (λ shift. replicate 4 true ++ replicate 4 false) (range_with_len 0 4) ++ replicate 32 false) 30);
+  weeks =
+      replicate 8 (week_wanting (flat_map (λ shift. replicate 4 true ++ replicate 4 false)
+      (range_with_len 0 4) ++ replicate 32 false) 30);
   base = [];
   keep = 0;
 }

@@ -1,4 +1,5 @@
--- The small instance, where minimums, successions, the history, skills, absences or fixed days leave a nurse few rows.
+-- The small instance, made so tight by minimums, successions, the history, skills, absences or fixed days
+-- that a nurse has few rows.
 use Rattle.std.specs.Prelude.{ℕ, true, false, List, [], ◌∷◌, ◌++◌, codes, flat_map, map, replicate, take, if◌then◌else◌, Some, None}
 use Rattle.std.specs.List.{range_with_len}
 use Rattle.roster_instance.specs.declared.choice.Choice.{Choice}
@@ -10,11 +11,13 @@ use Rattle.roster_instance.specs.Rosters.{Row, Rows}
 use Rattle.roster_rules.specs.AllowedRows.{best_row}
 use Rattle.roster_rules.specs.Improver.{Run, line_of, log_of, run}
 
--- these days need a nurse at least, and of Ann's days she is absent on some and others are fixed
+-- these days need at least one nurse; Ann is absent on some days, and others of hers are fixed
 abbrev pub of_ann : (days away fixed : List ℕ) → Meaning
 of_ann days away fixed = record mini_of_one_shift {
   weeks = record {
-    needs = Some (map (λ d. a_need (if is_among days d then 1 else 0) 1) (range_with_len 0 7)) ∷ replicate 63 None;
+    needs =
+        Some (map (λ d. a_need (if is_among days d then 1 else 0) 1) (range_with_len 0 7))
+        ∷ replicate 63 None;
     off_requests = replicate 14 no_requests;
     wishes = replicate 14 no_requests;
     absences = map (is_among away) (range_with_len 0 7) ++ replicate 7 false;
@@ -22,7 +25,7 @@ of_ann days away fixed = record mini_of_one_shift {
   } ∷ [];
 }
 
--- these days need a nurse at least, and Ann is absent on those
+-- these days need at least one nurse, and Ann is absent on them
 abbrev pub needing_without_ann : List ℕ → List ℕ → Meaning
 needing_without_ann days away = of_ann days away []
 
@@ -30,7 +33,7 @@ needing_without_ann days away = of_ann days away []
 abbrev pub fixing : List ℕ → Meaning
 fixing fixed = of_ann [] [] fixed
 
--- these days need a nurse at least
+-- these days need at least one nurse
 abbrev pub needing : List ℕ → Meaning
 needing days = needing_without_ann days []
 
@@ -40,7 +43,11 @@ resting c = record c { successions = Some (true ∷ replicate 7 false) ∷ [] }
 
 -- Ann worked a shift on the last day before the first Monday
 abbrev pub after_shift : ℕ → Meaning → Meaning
-after_shift s c = record c { past = Some (record { border = Working (shift_at s) 1 1; assignments = 1; weekends = 0 }) ∷ off_for 1 ∷ [] }
+after_shift s c =
+    record c {
+      past = Some (record { border = Working (shift_at s) 1 1; assignments = 1; weekends = 0 })
+          ∷ off_for 1 ∷ [];
+    }
 
 -- Ann has no skill
 abbrev pub unskilled : Meaning → Meaning
@@ -48,7 +55,11 @@ unskilled c = record c { nurses = record a_nurse { skills = [] } ∷ a_nurse ∷
 
 -- Ann is a head, and Bob a nurse
 abbrev pub with_heads : Meaning
-with_heads = record mini_of_one_shift { skill_names = codes "Nurse" ∷ codes "Head" ∷ []; nurses = record a_nurse { skills = skill_at 1 ∷ [] } ∷ a_nurse ∷ [] }
+with_heads =
+    record mini_of_one_shift {
+      skill_names = codes "Nurse" ∷ codes "Head" ∷ [];
+      nurses = record a_nurse { skills = skill_at 1 ∷ [] } ∷ a_nurse ∷ [];
+    }
 
 abbrev pub night_shift : Choice
 night_shift = Work (shift_at 1) (skill_at 0)
@@ -56,27 +67,28 @@ night_shift = Work (shift_at 1) (skill_at 0)
 abbrev pub early_as_head : Choice
 early_as_head = Work (shift_at 0) (skill_at 1)
 
--- a week that begins so, and then is free
+-- a week that begins with these choices, and then is free
 abbrev pub beginning : Row → Row
 beginning row = take 7 (row ++ free_week)
 
--- ---- what the worked examples speak of
+-- ---- the rows and rosters of the worked examples
 
 -- a nurse is needed from Monday to Friday
 abbrev pub needing_weekdays : Meaning
 needing_weekdays = needing (0 ∷ 1 ∷ 2 ∷ 3 ∷ 4 ∷ [])
 
--- Ann works on Tuesday alone
+-- Ann works on Tuesday only
 abbrev pub ann_on_tuesday : Rows
 ann_on_tuesday = early_on (1 ∷ []) ∷ free_week ∷ []
 
--- Bob works on Tuesday alone
+-- Bob works on Tuesday only
 abbrev pub bob_on_tuesday : Rows
 bob_on_tuesday = free_week ∷ early_on (1 ∷ []) ∷ []
 
--- Early on these days and a weekend: off, its Sunday, its Saturday, both
+-- Early on these days, with each weekend: off, its Sunday, its Saturday, both
 abbrev pub with_each_weekend : List ℕ → List Row
-with_each_weekend days = early_on days ∷ early_on (days ++ 6 ∷ []) ∷ early_on (days ++ 5 ∷ []) ∷ early_on (days ++ 5 ∷ 6 ∷ []) ∷ []
+with_each_weekend days =
+    early_on days ∷ early_on (days ++ 6 ∷ []) ∷ early_on (days ++ 5 ∷ []) ∷ early_on (days ++ 5 ∷ 6 ∷ []) ∷ []
 
 -- weeks that begin with Early, with Night, and with Early on Tuesday
 abbrev pub early_first : Row
@@ -101,13 +113,15 @@ night_off_early = beginning (night_shift ∷ Off ∷ early_shift ∷ [])
 abbrev pub two_nights : Row
 two_nights = beginning (night_shift ∷ night_shift ∷ [])
 
--- the run of so many rounds with one shift, from the free weeks, and the text of its log
+-- the run of this number of rounds with one shift, from the free weeks, and the text of its log
 abbrev pub run_of : ℕ → Run
 run_of rounds = run mini_of_one_shift (best_row mini_of_one_shift 0) rounds all_free
 
 abbrev pub log_text : ℕ → List ℕ
-log_text rounds = flat_map (line_of mini_of_one_shift) (log_of mini_of_one_shift (best_row mini_of_one_shift 0) rounds all_free)
+log_text rounds =
+    flat_map (line_of mini_of_one_shift)
+    (log_of mini_of_one_shift (best_row mini_of_one_shift 0) rounds all_free)
 
--- where it comes to
+-- the roster that it comes to
 abbrev pub shared_week : Rows
 shared_week = early_on (0 ∷ 2 ∷ 3 ∷ 4 ∷ []) ∷ early_on (1 ∷ 5 ∷ 6 ∷ []) ∷ []

@@ -6,8 +6,8 @@ ghost use Rattle.roster_run_examples.specs.Mini.{all_free, ann, bob, early_but, 
 ghost use Rattle.roster_rules.specs.AllowedRows.{allowed_rows, best_row, keeps_frozen_days, penalty_with, row_keeps};
 ghost use Rattle.roster_run_examples.specs.Tight.{after_shift, ann_on_tuesday, beginning, bob_on_tuesday, early_as_head, early_first, early_night, early_second, fixing, log_text, needing, needing_weekdays, needing_without_ann, night_early, night_first, night_off_early, resting, run_of, shared_week, two_nights, unskilled, with_each_weekend, with_heads};
 
-/// From Monday to Friday a nurse is needed, and Bob is off: Ann can choose her weekend. The row that is the best without minimums
-/// is not allowed. Where Bob works on Tuesday Ann can be off on that day too.
+/// From Monday to Friday a nurse is needed, and Bob is off: Ann can choose her weekend. The row that is the
+/// best without minimums is not allowed. If Bob works on Tuesday, Ann can be off on that day too.
 pub fn rows_that_minimums_exclude()
     ensures allowed { allowed_rows needing_weekdays 0 all_free ann
         ≡ with_each_weekend (0 ∷ 1 ∷ 2 ∷ 3 ∷ 4 ∷ []) }
@@ -19,13 +19,14 @@ pub fn rows_that_minimums_exclude()
         (early_on (0 ∷ 1 ∷ 2 ∷ 3 ∷ 4 ∷ [])) ≡ 190 }
     ensures penalty_of_an_excluded { penalty_with needing_weekdays all_free ann (early_but 1)
         ≡ 180 }
-    ensures allowed_beside_bob { allowed_rows needing_weekdays 0 bob_on_tuesday ann
+    ensures allowed_next_to_bob { allowed_rows needing_weekdays 0 bob_on_tuesday ann
         ≡ with_each_weekend (0 ∷ 2 ∷ 3 ∷ 4 ∷ []) ++ with_each_weekend (0 ∷ 1 ∷ 2 ∷ 3 ∷ 4 ∷ []) }
-    ensures best_beside_bob { best_row needing_weekdays 0 bob_on_tuesday ann ≡ Some (early_but 1) }
+    ensures best_next_to_bob { best_row needing_weekdays 0 bob_on_tuesday ann ≡ Some (early_but 1) }
 {}
 
-/// A nurse is needed on Wednesday and Friday, and Early may not follow Early: Ann can work on Monday and Sunday too, or not. Of
-/// the two best rows the first is the one that is off on Sunday. Where she worked Early on the day before, Monday is off.
+/// A nurse is needed on Wednesday and Friday, and Early may not follow Early: Ann can work on Monday and
+/// Sunday too, or not. Of the two best rows the first is the one that is off on Sunday. If she worked Early
+/// on the day before, Monday is off.
 pub fn rows_that_successions_exclude()
     ensures allowed { allowed_rows (resting (needing (2 ∷ 4 ∷ []))) 0 all_free ann ≡ early_on
         (2 ∷ 4 ∷ []) ∷ early_on (2 ∷ 4 ∷ 6 ∷ []) ∷ early_on (0 ∷ 2 ∷ 4 ∷ [])
@@ -38,8 +39,8 @@ pub fn rows_that_successions_exclude()
         ann ≡ Some (early_on (2 ∷ 4 ∷ [])) }
 {}
 
-/// Ann lacks the skill: she can only be off. Where a nurse is needed and Bob is off too, no row of hers is allowed, and her step
-/// changes nothing.
+/// Ann lacks the skill: she can only be off. If a nurse is needed and Bob is off too, no row of hers is
+/// allowed, and her step changes nothing.
 pub fn rows_that_skills_exclude()
     ensures allowed { allowed_rows (unskilled (needing (1 ∷ []))) 0 bob_on_tuesday
         ann ≡ free_week ∷ [] }
@@ -49,8 +50,8 @@ pub fn rows_that_skills_exclude()
     ensures none { best_row (unskilled (needing (1 ∷ []))) 0 all_free ann ≡ None }
 {}
 
-/// Ann is absent from Monday to Friday: she can choose her weekend. Where a nurse is needed in an absence and Bob is off, no row of
-/// hers is allowed.
+/// Ann is absent from Monday to Friday: she can choose her weekend. If a nurse is needed in an absence and
+/// Bob is off, no row of hers is allowed.
 pub fn rows_that_absences_exclude()
     ensures allowed { allowed_rows (needing_without_ann [] (0 ∷ 1 ∷ 2 ∷ 3 ∷ 4 ∷ [])) 0 all_free
         ann ≡ free_week ∷ early_on (6 ∷ []) ∷ early_on (5 ∷ []) ∷ early_on (5 ∷ 6 ∷ []) ∷ [] }
@@ -64,8 +65,8 @@ pub fn rows_that_absences_exclude()
         (early_on (1 ∷ []) ∷ early_on (2 ∷ []) ∷ []) ≡ early_on (1 ∷ []) ∷ early_on (2 ∷ []) ∷ [] }
 {}
 
-/// Ann's days but Monday are fixed as days off: she can choose Monday. Where her Tuesday is fixed at work and Sunday is free, she works
-/// on Tuesday in each row. Bob's days are free.
+/// Ann's days except Monday are fixed as days off: she can choose Monday. If her Tuesday is fixed at work and
+/// Sunday is free, she works on Tuesday in each row. Bob's days are free.
 pub fn rows_that_fixed_days_exclude()
     ensures days_off { allowed_rows (fixing (1 ∷ 2 ∷ 3 ∷ 4 ∷ 5 ∷ 6 ∷ [])) 0 all_free ann
         ≡ free_week ∷ early_on (0 ∷ []) ∷ [] }
@@ -75,8 +76,8 @@ pub fn rows_that_fixed_days_exclude()
         (early_on (1 ∷ []))) (ann ∷ bob ∷ []) ≡ false ∷ true ∷ [] }
 {}
 
-/// Night forbids Early on the next day, also the night before the first Monday. A head can't work as a nurse. And a row has a choice
-/// for each day, with a shift and a skill of the case.
+/// Night forbids Early on the next day, also on the first Monday. A head can't work as a nurse. A row has a
+/// choice for each day, with a shift and a skill of the case.
 pub fn rows_that_are_kept()
     ensures after_a_night { filter (row_keeps mini all_free ann)
         (night_early ∷ early_night ∷ night_off_early ∷ two_nights ∷ [])
@@ -91,7 +92,8 @@ pub fn rows_that_are_kept()
         ≡ early_first ∷ [] }
 {}
 
-/// Two rounds that change something, and a third that doesn't. With two rounds the run is stopped, with the same roster.
+/// Two rounds that change something, and a third that doesn't. With two rounds the run is stopped, with the
+/// same roster.
 pub fn run_of_three_rounds()
     ensures log { log_text 3 ≡ codes
         "start 470\n1 Ann 180\n1 Bob 20\nround 1 20\n2 Ann 0\nround 2 0\nround 3 0\nsettled 0\n" }

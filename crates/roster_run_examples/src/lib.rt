@@ -1,5 +1,6 @@
-//! Worked examples of rows, best rows, and runs of the improver with their logs, on a small instance (`specs/Mini.antt`) and on
-//! tighter ones (`specs/Tight.antt`). The functions do nothing; a check computes their clauses.
+//! Worked examples of rows, best rows, and runs of the improver with their logs, on a small instance
+//! (`specs/Mini.antt`) and on tighter ones (`specs/Tight.antt`). The functions do nothing; a check computes
+//! their clauses.
 #![tactic(auto)]
 
 mod choosing;

@@ -10,7 +10,8 @@ ghost use Rattle.roster_rules.specs.Prefix.{due, summary_of};
 ghost use Rattle.roster_rules.specs.AllowedRows.{best_row, first_least, penalty_with};
 ghost use Rattle.roster_run_examples.specs.Mini.{all_free, ann, early_but, mini, mini_of_one_shift};
 
-/// Rows in their order, and the first of the least: one day off in the week costs the same from Tuesday to Friday.
+/// Rows in their order, and the first of the least: one day off in the week costs the same from Tuesday to
+/// Friday.
 pub fn rows_in_order()
     ensures order { all_rows {A = ℕ} (0 ∷ 1 ∷ []) 2 ≡ (0 ∷ 0 ∷ []) ∷ (0 ∷ 1 ∷ []) ∷ (1 ∷ 0 ∷ [])
         ∷ (1 ∷ 1 ∷ []) ∷ [] }

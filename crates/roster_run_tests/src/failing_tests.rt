@@ -1,4 +1,4 @@
-//! Runs of which a read fails, or an output or a log after each byte in turn.
+//! Runs in which a read fails, or an output or a log after each number of bytes.
 
 use roster_cli::{Command, Request, run};
 use roster_devices::{AtEnd, FailingReader, OneByteReader, ShortWriter};
@@ -8,7 +8,7 @@ use std::alloc::{AllocError, Global};
 use std::io::{ErrorKind, Read};
 use std::test::Fail;
 
-/// What a command writes over mini, and what it tells of its work.
+/// What a command writes over mini to its output and to its log.
 #[derive(Clone, Copy)]
 struct Answer {
     name: &'static str,
@@ -71,8 +71,8 @@ const ANSWERS: [Answer; 8] = [
     },
 ];
 
-/// The command of a name: `best` is for Ann, `improve` makes 100 rounds at most, `bound` makes one, `polish` no search, and `who`
-/// is for Wednesday's Early.
+/// The command of a name: `best` is for Ann, `improve` makes at most 100 rounds, `bound` makes one, `polish`
+/// no search, and `who` is for Wednesday's Early.
 fn command_of(alloc: Global, name: &str) -> Result<Command, AllocError> {
     Ok(match name {
         "show" => Command::Show,
@@ -110,7 +110,7 @@ fn command_of(alloc: Global, name: &str) -> Result<Command, AllocError> {
     })
 }
 
-/// Room for an output and a log, in bytes, and what happens where it is full.
+/// The sizes of an output and a log, in bytes, and what happens when they are full.
 #[derive(Clone, Copy)]
 struct Room {
     output: usize,
@@ -124,10 +124,10 @@ const AMPLE: Room = Room {
     at_end: AtEnd::Fail,
 };
 
-/// How a run is to end: its status, and what its output and its log are as far as there is room.
+/// How a run is to end: its status, and what its output and its log have, as far as they hold it.
 type End<'a> = (u8, &'a str, &'a str);
 
-/// Whether a run of the command of this name over an input ends so.
+/// Whether a run of the command of this name over an input ends in this way.
 fn ends(
     alloc: Global,
     name: &str,
@@ -139,12 +139,12 @@ fn ends(
         command: command_of(alloc, name)?,
         files: Vec::new(alloc),
     };
-    let (mut output_room, mut log_room) = ([0; 200], [0; 200]);
-    let output_room = &mut output_room[..room.output.min(200)];
-    let log_room = &mut log_room[..room.log.min(200)];
+    let (mut output_buffer, mut log_buffer) = ([0; 200], [0; 200]);
+    let output_buffer = &mut output_buffer[..room.output.min(200)];
+    let log_buffer = &mut log_buffer[..room.log.min(200)];
     let mut input = Watch::new(input);
-    let mut output = Watch::new(ShortWriter::new(output_room, room.at_end));
-    let mut log = Watch::new(ShortWriter::new(log_room, room.at_end));
+    let mut output = Watch::new(ShortWriter::new(output_buffer, room.at_end));
+    let mut log = Watch::new(ShortWriter::new(log_buffer, room.at_end));
     let status = run(alloc, &request, &mut input, &mut output, &mut log);
     Ok(
         status == end.0
@@ -184,8 +184,8 @@ fn an_output_that_fails_after_each_byte(rt: HostRuntime) -> Result<(), Fail> {
         output: text,
         log,
     } in ANSWERS {
-        let told = format!(in alloc; "{log}write failed\n")?;
-        let end = (3, text, told.as_str());
+        let logged = format!(in alloc; "{log}write failed\n")?;
+        let end = (3, text, logged.as_str());
         for at_end in [AtEnd::Fail, AtEnd::TakeNothing] {
             for output in 0..text.len() {
                 let room = Room {
@@ -196,7 +196,7 @@ fn an_output_that_fails_after_each_byte(rt: HostRuntime) -> Result<(), Fail> {
                 assert!(rt; ends(alloc, name, input, room, end)?, "{name} {output}");
             }
             // The line about it can't be written either.
-            for log in log.len()..told.len() {
+            for log in log.len()..logged.len() {
                 let room = Room {
                     output: 7,
                     log,
@@ -229,7 +229,7 @@ fn a_log_that_fails_after_each_byte(rt: HostRuntime) -> Result<(), Fail> {
                     "{name} {log}"
                 );
             }
-            // Just enough room.
+            // Just enough bytes.
             let room = Room {
                 output: output.len(),
                 log: text.len(),
@@ -245,27 +245,27 @@ fn a_log_that_fails_after_each_byte(rt: HostRuntime) -> Result<(), Fail> {
 }
 
 #[test]
-fn a_log_of_a_floor_that_fails_after_each_byte(rt: HostRuntime) -> Result<(), Fail> {
+fn a_log_of_a_bound_that_fails_after_each_byte(rt: HostRuntime) -> Result<(), Fail> {
     let alloc = rt.alloc();
-    // Three nurses are wanted each day, and there are two.
+    // Each day needs three nurses, and there are two.
     let three = "(0,3) (0,3) (0,3) (0,3) (0,3) (0,3) (0,3)";
     let text = changed(
         alloc,
         &[("(0,1) (0,1) (0,1) (0,1) (0,1) (0,1) (0,1)", three)],
     )?;
-    let (output, told) = ("roster 890\nbound 310\n", "start 890\nround 1 310\n");
+    let (output, logged) = ("roster 890\nbound 310\n", "start 890\nround 1 310\n");
     for at_end in [AtEnd::Fail, AtEnd::TakeNothing] {
-        for log in 0..told.len() {
+        for log in 0..logged.len() {
             let room = Room {
                 output: 200,
                 log,
                 at_end,
             };
-            let end = (3, "", told);
+            let end = (3, "", logged);
             assert!(rt; ends(alloc, "bound", text.as_bytes(), room, end)?, "{log}");
         }
     }
-    assert!(rt; ends(alloc, "bound", text.as_bytes(), AMPLE, (0, output, told))?);
+    assert!(rt; ends(alloc, "bound", text.as_bytes(), AMPLE, (0, output, logged))?);
     Ok(())
 }
 
@@ -273,12 +273,12 @@ fn a_log_of_a_floor_that_fails_after_each_byte(rt: HostRuntime) -> Result<(), Fa
 fn a_refusal_whose_line_fails_after_each_byte(rt: HostRuntime) -> Result<(), Fail> {
     let alloc = rt.alloc();
     let text = changed(alloc, &[("Early Nurse (0,1)", "Early Nurse (1,1)")])?;
-    let told = "H2 week 0 Mon Early Nurse: 0 of 1\n";
+    let logged = "H2 week 0 Mon Early Nurse: 0 of 1\n";
     for name in ["cost", "best", "improve", "bound", "polish"] {
-        for log in 0..told.len() + 1 {
+        for log in 0..logged.len() + 1 {
             let room = Room { log, ..AMPLE };
             assert!(rt;
-                ends(alloc, name, text.as_bytes(), room, (1, "", told))?,
+                ends(alloc, name, text.as_bytes(), room, (1, "", logged))?,
                 "{name} {log}"
             );
         }

@@ -1,4 +1,4 @@
-//! Runs over texts that are cut off or spoilt at each byte.
+//! Runs over texts that are cut off or changed at each byte.
 
 use roster_cli::{Command, Request, run};
 use roster_tests::texts::{MINI, SHOWN};
@@ -25,10 +25,10 @@ fn texts_cut_off_after_each_byte(rt: HostRuntime) -> Result<(), Fail> {
     let mut line: u32 = 1;
     for (end, byte) in whole.iter().enumerate() {
         let (status, output, log) = show(rt.alloc(), &whole[..end]);
-        let told = format!(in rt.alloc(); "line {line}: expected ")?;
+        let logged = format!(in rt.alloc(); "line {line}: expected ")?;
         // The last token is one byte, with an LF after it.
         let is_right = if end + 1 < whole.len() {
-            status == 1 && output.is_empty() && log.starts_with(told.as_bytes())
+            status == 1 && output.is_empty() && log.starts_with(logged.as_bytes())
         } else {
             status == 0 && output.as_slice() == SHOWN.as_bytes() && log.is_empty()
         };
@@ -41,12 +41,12 @@ fn texts_cut_off_after_each_byte(rt: HostRuntime) -> Result<(), Fail> {
 }
 
 #[test]
-fn texts_with_another_byte_in_each_place(rt: HostRuntime) -> Result<(), Fail> {
+fn texts_with_another_byte_at_each_index(rt: HostRuntime) -> Result<(), Fail> {
     for at in 0..MINI.len() {
         for byte in *b"(),= 0x" {
             let mut text = MINI.as_bytes().to_vec(rt.alloc())?;
-            if let Some(place) = text.get_mut(at) {
-                *place = byte;
+            if let Some(target) = text.get_mut(at) {
+                *target = byte;
             }
             let (status, output, log) = show(rt.alloc(), text.as_slice());
             let is_answered = status == 0 && !output.is_empty() && log.is_empty();

@@ -1,4 +1,5 @@
-//! Tests of a run of a command over stand-in devices that fail, and over spoilt texts. It has no code of its own.
+//! Tests of a run of a command over stand-in devices that fail, and over spoilt texts. It has no code of its
+//! own.
 #![tactic(auto)]
 
 #[cfg(test)]

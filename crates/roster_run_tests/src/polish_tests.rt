@@ -1,4 +1,5 @@
-//! Runs of kicks and of a fade: what the seed decides, which no contract says, and a log that fails after each byte.
+//! Runs of kicks and of a fade: what the seed decides, which no contract states, and a log that fails after
+//! each number of bytes.
 
 use roster_cli::{Command, Request, run};
 use roster_devices::{AtEnd, ShortWriter};
@@ -7,7 +8,8 @@ use roster_text::Watch;
 use std::alloc::{AllocError, Global};
 use std::test::Fail;
 
-/// Each nurse works just the days on which the other one wants to, and no row is cheaper while the other's stays.
+/// Each nurse works just the days on which the other one wants to work, and no row is cheaper while the
+/// other's stays.
 const CROSSED: [(&str, &str); 3] = [
     (
         "(0,1) (0,1) (0,1) (0,1) (0,1) (0,1) (0,1)",
@@ -25,16 +27,17 @@ const CROSSED: [(&str, &str); 3] = [
     ),
 ];
 
-/// How a log begins where the first settling changes nothing and a kick is kept that makes the roster cheaper.
+/// How a log begins if the first descent changes nothing, and a kick that makes the roster cheaper is kept.
 const BEGIN: &str = "start 70\nkick ";
 
-/// How it ends where nothing is left to be saved.
+/// How it ends if nothing is left to be saved.
 const END: &str = "settled 0\n";
 
-/// What a fade leads to, by any seed.
+/// What a fade leads to, with any seed.
 const FADED: &str = "start 70\nfade 0\nsettled 0\n";
 
-/// The status of a run over them by a seed, with kicks alone or with a fade, and what a log with so much room has then.
+/// The status of a run over them with a seed, with only kicks or with a fade, and what a log of this size has
+/// then.
 fn run_by(
     alloc: Global,
     seed: u32,
@@ -52,11 +55,11 @@ fn run_by(
         files: Vec::new(alloc),
     };
     let text = changed(alloc, &CROSSED)?;
-    let (mut output_room, mut log_room) = ([0; 500], [0; 500]);
-    let log_room = &mut log_room[..room.min(500)];
+    let (mut output_buffer, mut log_buffer) = ([0; 500], [0; 500]);
+    let log_buffer = &mut log_buffer[..room.min(500)];
     let mut input = Watch::new(text.as_bytes());
-    let mut output = Watch::new(ShortWriter::new(&mut output_room, AtEnd::Fail));
-    let mut log = Watch::new(ShortWriter::new(log_room, AtEnd::Fail));
+    let mut output = Watch::new(ShortWriter::new(&mut output_buffer, AtEnd::Fail));
+    let mut log = Watch::new(ShortWriter::new(log_buffer, AtEnd::Fail));
     let status = run(alloc, &request, &mut input, &mut output, &mut log);
     Ok((status, Vec::from_slice(alloc, log.into_inner().written())?))
 }
@@ -70,7 +73,7 @@ fn a_seed_decides_the_kicks(rt: HostRuntime) -> Result<(), Fail> {
     assert!(rt; status == 0);
     assert!(rt; first.as_slice() == again.as_slice());
     assert!(rt; first.as_slice() != other.as_slice());
-    // Kicks are kept by either seed, and in the end nobody works on a day that the other one wants.
+    // Kicks are kept with either seed, and in the end nobody works on a day that the other one wants.
     for log in [first, other] {
         assert!(rt; log.starts_with(BEGIN.as_bytes()));
         assert!(rt; log.ends_with(END.as_bytes()));

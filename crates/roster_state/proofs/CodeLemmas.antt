@@ -1,4 +1,4 @@
--- Numbers of several digits, each with a size of its own, and the states that they are the numbers of.
+-- Numbers of several digits, each with a size of its own, and the states that have these numbers.
 use Rattle.std.proofs.Common.{◌≡◌, ◌∙◌, ◌+◌, ◌-◌, ◌*◌, ◌/◌, ◌%◌, ◌<◌, ◌≤◌, ℕ, zero, suc, Option, Some, None, ap, ap₂, arith, cond, le-ltb, lt-ltb, mul-pos, mul_comm, mul_right_comm, refl, subst, sym, true}
 use Rattle.std.proofs.lemmas.Bool.{and_from, and_parts, ltb-true}
 use Rattle.std.proofs.lemmas.Nat.{div-add-mod', div-mul-add, div_below, mod-mul-add, mod_below, mul-add-lt}
@@ -8,7 +8,7 @@ use Rattle.roster_rules.specs.Prefix.{Summary}
 use Rattle.roster_instance.specs.Limits.{most_states}
 use Rattle.roster_instance.specs.Sizes.{state_count}
 use Rattle.roster_state.specs.Codes.{KeepLimits, Sizes, blocks, code_of, fits_sizes, product, shift_digit, shift_numbered, sizes_of, state_at, state_numbered}
-use Rattle.roster_state.specs.Step.{with_assignments}
+use Rattle.roster_state.specs.Transition.{with_assignments}
 
 -- ---- sizes
 
@@ -27,7 +27,7 @@ factor-within a (suc b) most some within = omega (arith, within)
 
 -- ---- digits
 
--- a digit more makes a number below the size of both
+-- one more digit makes a number below the product of both sizes
 digit-below : (q b d a : ℕ) → q < a → d < b → q * b + d < a * b
 digit-below q b d a front digit = subst (λ n. q * b + d < n) (mul_comm b a) (mul-add-lt q b d a front digit)
 
@@ -74,7 +74,7 @@ shift_numbered-shift_digit (Some s) =
 -- ---- the number of a state
 
 module _ (z : Sizes) (s : Summary) (f : Fits z s) where
-  -- the number without its last digits, one more each time
+  -- the number without its last digits, with one more digit each time
   abbrev runs : ℕ
   runs = shift_digit s.last * z.run + s.run
 
@@ -120,7 +120,7 @@ module _ (z : Sizes) (s : Summary) (f : Fits z s) where
 pub numbered-within : (z : Sizes) (s : Summary) → fits_sizes z s ≡ true → code_of z s < product z
 numbered-within z s fit = code-within z s (fits-all z s fit)
 
--- states with one number are one
+-- states with the same number are equal
 one_code : (z : Sizes) (s other : Summary) → Fits z s → Fits z other → code_of z other ≡ code_of z s → other ≡ s
 one_code z s other f g same = sym (numbered z other g) ∙ ap (state_numbered z) same ∙ numbered z s f
 
@@ -150,7 +150,7 @@ module _ (z now : Sizes) (s state : Summary) (number : ℕ) (sizes : z ≡ now) 
     pub digits-back : state_at now all_digits ≡ Some state
     digits-back = ap (state_at now) code-is ∙ state_at-code now state there
 
-    -- nothing on the way to the number is large
+    -- no number on the way is large
     module _ (keep : KeepLimits z) where
       pub digits-small : all_digits < most_states
       digits-small = omega (arith, digits-within, keep.states, ap product sizes)

@@ -3,11 +3,11 @@ pub mod ShiftLaw
 pub mod OpenRuns
 pub mod SumLaw
 pub mod BlockLaw
-pub mod AreaLaw
+pub mod BoxLaw
 pub mod StartLaw
-pub mod StepBounds
+pub mod TransitionBounds
 pub mod CodeLemmas
-pub mod Standing
-pub mod StretchLaw
+pub mod Reachable
+pub mod SpanLaw
 pub mod WorkedLaw
-pub mod FloorLines
+pub mod CompletionLines

@@ -1,5 +1,5 @@
--- The numbers of a summary are the runs that are open after its days, up to their caps: of each kind of days one, and 0
--- where the last day isn't of the kind. A day costs as much after a run as after that number.
+-- The numbers of a summary are the runs that are open after its days, up to their caps: one for each kind of
+-- days, and 0 if the last day isn't of the kind. A day costs as much after a run as after that number.
 use Rattle.std.proofs.Common.{◌≡◌, ◌⊎◌, refl, sym, ap, ◌∙◌, arith, ℕ, zero, suc, ◌+◌, ◌-◌, ◌<◌, ◌≤◌, Bool, true, false, not, min, nat_lt, length, if◌then◌else◌, true≢false, Option, Some, None, is_some, inl, inr}
 use Rattle.std.proofs.lemmas.Bool.{cases_lt, eqb-true, lt-ltb, le-ltb, ne_eqb}
 use Rattle.roster_instance.specs.declared.choice.Shift.{Shift}
@@ -16,7 +16,7 @@ use Rattle.roster_instance.specs.Sizes.{cap}
 use Rattle.roster_instance.specs.RunLaw.{day_violations}
 use Rattle.roster_rules.specs.Runs.{open_run}
 use Rattle.roster_rules.proofs.RunLaw.{border, grown}
-use Rattle.roster_state.specs.Step as step
+use Rattle.roster_state.specs.Transition as transition
 
 -- ---- caps
 
@@ -42,7 +42,7 @@ capped l run false = missed_same l run (cases_lt (cap l) run)
 pub longer : (run x m : ℕ) → run ≡ min x m → min (run + 1) m ≡ min (x + 1) m
 longer run x m e = omega (arith, e)
 
--- ---- no run of a kind is open where the last day isn't of it
+-- ---- no run of a kind is open if the last day isn't of it
 
 closed_by : (q : Bool) (x : ℕ) → q ≡ false → (if q then x else 0) ≡ 0
 closed_by q x e = rw e
@@ -83,7 +83,7 @@ module _ (c : Meaning) (n : ℕ) (days : Days) where
       omega (arith, none)
   working_by (Some s) e = refl
 
-  pub working_is : step.working_run (summary_of c n days) ≡ min open_working (cap (contract_of c n).working)
+  pub working_is : transition.working_run (summary_of c n days) ≡ min open_working (cap (contract_of c n).working)
   unfolding summary_of
   working_is = working_by (last_of c n days) refl
 
@@ -93,7 +93,7 @@ module _ (c : Meaning) (n : ℕ) (days : Days) where
       let none : open_free ≡ 0 = closed (free_before (past_of c n).border) (λ o. not (is_some o)) (last_shift (past_of c n).border) days (length days) (free_border (past_of c n).border) (ap (λ (o : Option Shift). not (is_some o)) e) in
       omega (arith, none)
 
-  pub free_is : step.free_run (summary_of c n days) ≡ min open_free (cap (contract_of c n).free)
+  pub free_is : transition.free_run (summary_of c n days) ≡ min open_free (cap (contract_of c n).free)
   unfolding summary_of
   free_is = free_by (last_of c n days) refl
 
@@ -105,6 +105,6 @@ module _ (c : Meaning) (n : ℕ) (days : Days) where
   shift_by t (Some s) true i e = ap (λ u. min (open_shift u) (cap (run_of_shift c u))) (eqb-true s.0 t i)
   shift_by t last false i e = omega (arith, shift_closed t (ap (is_shift t) e ∙ i))
 
-  pub shift_is : (t : ℕ) → step.open_shift_run (summary_of c n days) t ≡ min (open_shift t) (cap (run_of_shift c t))
+  pub shift_is : (t : ℕ) → transition.open_shift_run (summary_of c n days) t ≡ min (open_shift t) (cap (run_of_shift c t))
   unfolding summary_of
   shift_is t = shift_by t (last_of c n days) (is_shift t (last_of c n days)) refl refl

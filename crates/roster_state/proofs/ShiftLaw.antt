@@ -1,5 +1,5 @@
--- What one day more costs in the runs of the shifts: of all shifts two at most count, the last one, whose run ends, and the
--- one that is worked.
+-- What one more day costs in the runs of the shifts: of all shifts at most two count, the last one, whose run
+-- ends, and the one that is worked.
 use Rattle.std.proofs.Common.{◌≡◌, ◌≢◌, ◌⊎◌, refl, sym, ap, arith, ℕ, zero, suc, ◌+◌, ◌*◌, ◌<◌, true, false, if◌then◌else◌, Option, Some, None, IfSome, inl, inr}
 use Rattle.std.proofs.lemmas.Bool.{cases_eq, eq-eqb, ne_eqb}
 use Rattle.roster_instance.specs.declared.choice.Shift.{Shift}
@@ -11,9 +11,9 @@ use Rattle.roster_rules.specs.Prefix.{Summary}
 use Rattle.roster_instance.specs.RunLaw.{day_violations}
 use Rattle.roster_rules.specs.Weights.{shift_run_weight}
 use Rattle.roster_rules.proofs.RunSums.{sum_zero}
-use Rattle.roster_state.specs.Step.{ended, shifts_more, worked}
+use Rattle.roster_state.specs.Transition.{ended, shifts_more, worked}
 
--- ---- sums of which one number counts, or two
+-- ---- sums in which one number counts, or two
 
 sum_one_by : (n t : ℕ) (f : ℕ → ℕ) → t < suc n → ((k : ℕ) → k < suc n → k ≢ t → f k ≡ 0) → (t < n → sum_below n f ≡ f t) → (t ≡ n) ⊎ (t ≢ n) → sum_below n f + f n ≡ f t
 sum_one_by n t f h none rest (inl e) = omega (arith, sum_zero n f (λ k l. none k (omega arith) (λ g. omega arith)), ap f e)

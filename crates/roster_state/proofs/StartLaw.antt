@@ -46,7 +46,7 @@ own_run : (b : Bool) → T b → (own : ℕ) → (if b then own else 0) ≡ own
 own_run true same own = refl
 own_run false same own = elim same [ ]
 
--- for any border in the place of the history's
+-- for any border instead of the history's
 run_from : ContractRules → Border → Option Shift → ℕ
 run_from r b None = min (free_before b) (cap r.free)
 run_from r b (Some s) = min (worked_before b) (cap r.working)

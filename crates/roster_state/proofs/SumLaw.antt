@@ -1,5 +1,5 @@
--- The sum law: from the summary of some days a step leads to the summary of those days and one more, and costs what is
--- owed more then; the end adds the missing assignments.
+-- The sum law: a transition from the summary of some days leads to the summary of those days and one more,
+-- and costs the increase of what is owed; the end adds the missing assignments.
 use Rattle.std.proofs.Common.{◌≡◌, ◌⊎◌, refl, sym, ap, ◌∙◌, arith, ℕ, zero, suc, ◌+◌, ◌-◌, ◌*◌, ◌<◌, ◌≤◌, Bool, true, false, not, min, ◌&&◌, nat_le, mul-add, [], ◌∷◌, ◌++◌, length, if◌then◌else◌, Option, Some, None, is_some, inl, inr}
 use Rattle.std.proofs.lemmas.Bool.{cases_lt, eq-eqb, le-leb, lt-leb, ne_eqb}
 use Rattle.roster_instance.specs.declared.choice.Shift.{Shift}
@@ -19,7 +19,7 @@ use Rattle.roster_rules.proofs.RowLaw.{row_grown, row_violations}
 use Rattle.roster_rules.proofs.RunBounds.{sum_both}
 use Rattle.roster_rules.proofs.RunSums.{sum_same}
 use Rattle.roster_rules.proofs.WeekendLaw.{splits_grow, weekends_grow, worked_grow}
-use Rattle.roster_state.specs.Step.{end_cost_of, free_more, next_of, run_with, shift_more, shift_run_with, shifts_more, split_more, step_cost, total_more, weekend_more, working_more}
+use Rattle.roster_state.specs.Transition.{end_cost_of, free_more, next_of, run_with, shift_more, shift_run_with, shifts_more, split_more, transition_cost, total_more, weekend_more, working_more}
 use Rattle.roster_state.proofs.OpenRuns.{capped, free_is, longer, open_free, open_shift, open_working, shift_is, working_is}
 
 -- ---- the day before: day 0 is no day of a weekend, so the history doesn't matter
@@ -83,7 +83,7 @@ next_is c n days shift =
     omega (arith, weekends_rise c n days shift) in
     λ i. record { last = last i; run = run i; shift_run = shift_run i; assignments = assignments i; weekends = weekends i }
 
--- ---- what is owed more
+-- ---- the increase of what is owed
 
 module _ (c : Meaning) (n : ℕ) (days : Days) (shift : Option Shift) where
   working_rise : working_run_cost c n (days ++ shift ∷ []) ≡ working_run_cost c n days + working_more c n (summary_of c n days) shift
@@ -112,7 +112,7 @@ module _ (c : Meaning) (n : ℕ) (days : Days) (shift : Option Shift) where
       sum_same (shift_count c) (run_cost_of_shift c n (days ++ shift ∷ [])) (λ t. run_cost_of_shift c n days t + shift_more c (summary_of c n days) shift t) (λ t h. shift_rise t)
       ∙ sum_both (shift_count c) (run_cost_of_shift c n days) (shift_more c (summary_of c n days) shift)
 
-  -- where the contract wants whole weekends
+  -- if the contract wants whole weekends
   split_by : (q : Bool) → (if q then split_weight * split_weekends (days ++ shift ∷ []) else 0) ≡ (if q then split_weight * split_weekends days else 0) + (if q then split_weight * splits_more (length days) (is_some (last_of c n days)) (is_some shift) else 0)
   split_by true = omega (arith, splits_rise c n days shift)
   split_by false = refl
@@ -121,7 +121,7 @@ module _ (c : Meaning) (n : ℕ) (days : Days) (shift : Option Shift) where
   unfolding summary_of
   split_rise = split_by (contract_of c n).whole_weekends
 
--- what comes to a number counts above its greatest value g where the number, up to a cap, has reached g
+-- what is added to a number counts above its greatest value g if the number, up to a cap, has reached g
 above : (k g m t x : ℕ) → g ≤ m → (t < g) ⊎ (g ≤ t) → x ≤ 1 → k * ((t + x) - g) ≡ k * (t - g) + (if nat_le g (min t m) then k * x else 0)
 above k g m t x h (inr l) one =
     let e : (t + x) - g ≡ (t - g) + x = omega arith in
@@ -157,8 +157,8 @@ module _ (c : Meaning) (n : ℕ) (days : Days) (shift : Option Shift) where
       ap (λ t. weekend_weight * (t - m)) more
       ∙ above weekend_weight m m (weekends_of c n days) x (omega arith) (cases_lt (weekends_of c n days) m) (weekends_at_most (is_saturday (length days)) (is_sunday (length days)) (is_some (last_of c n days)) (is_some shift))
 
-  pub owed_more : due c n (days ++ shift ∷ []) ≡ due c n days + step_cost c n (length days) (summary_of c n days) shift
-  unfolding due step_cost
+  pub owed_more : due c n (days ++ shift ∷ []) ≡ due c n days + transition_cost c n (length days) (summary_of c n days) shift
+  unfolding due transition_cost
   owed_more =
       omega (arith, working_rise c n days shift, free_rise c n days shift, shifts_rise c n days shift, split_rise c n days shift, total_rise, weekend_rise)
 
@@ -173,11 +173,11 @@ closes c n days =
 -- ---- of any state that is the summary of some days
 
 module _ (c : Meaning) (n : ℕ) (s : Summary) (days : Days) (is : s ≡ summary_of c n days) where
-  pub step_leads : (day : ℕ) (shift : Option Shift) (next : Summary) → length days ≡ day → next ≡ next_of c n day s shift → next ≡ summary_of c n (days ++ shift ∷ [])
-  step_leads day shift next at e = rw (e, ← at, is) (next_is c n days shift)
+  pub transition_leads : (day : ℕ) (shift : Option Shift) (next : Summary) → length days ≡ day → next ≡ next_of c n day s shift → next ≡ summary_of c n (days ++ shift ∷ [])
+  transition_leads day shift next at e = rw (e, ← at, is) (next_is c n days shift)
 
-  pub step_owes : (day : ℕ) (shift : Option Shift) (cost : ℕ) → length days ≡ day → cost ≡ step_cost c n day s shift → due c n (days ++ shift ∷ []) ≡ due c n days + cost
-  step_owes day shift cost at e = rw (e, ← at, is) (owed_more c n days shift)
+  pub transition_owes : (day : ℕ) (shift : Option Shift) (cost : ℕ) → length days ≡ day → cost ≡ transition_cost c n day s shift → due c n (days ++ shift ∷ []) ≡ due c n days + cost
+  transition_owes day shift cost at e = rw (e, ← at, is) (owed_more c n days shift)
 
   pub end_closes : (cost : ℕ) → cost ≡ end_cost_of c n s → own_cost c n days ≡ due c n days + cost
   end_closes cost e = rw (e, is) (closes c n days)

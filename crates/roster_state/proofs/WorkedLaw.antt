@@ -1,4 +1,4 @@
--- What a worked shift costs beside what a worked day costs whatever the shift.
+-- What a worked shift costs in addition to what a worked day costs whatever the shift.
 use Rattle.std.proofs.Common.{◌≡◌, ◌≢◌, ◌∙◌, ◌-◌, ap, arith, nat_lt, subst, sym, ℕ, ◌+◌, ◌*◌, ◌<◌, ◌≤◌, refl, true, min, IfSome, Option, Some, None}
 use Rattle.std.proofs.lemmas.Bool.{eq-eqb, ne_eqb}
 use Rattle.roster_instance.specs.declared.choice.Shift.{Shift}
@@ -9,10 +9,10 @@ use Rattle.roster_rules.specs.Prefix.{Summary}
 use Rattle.roster_rules.specs.Weights.{shift_run_weight}
 use Rattle.roster_instance.specs.Sizes.{cap}
 use Rattle.roster_state.specs.declared.worked.WorkedDay.{WorkedDay}
-use Rattle.roster_state.specs.Room.{most_of_step}
-use Rattle.roster_state.specs.Step.{ended, next_of, open_shift_run, shifts_more, step_cost, worked}
+use Rattle.roster_state.specs.MostCosts.{most_of_transition}
+use Rattle.roster_state.specs.Transition.{ended, next_of, open_shift_run, shifts_more, transition_cost, worked}
 use Rattle.roster_state.specs.Worked.{IsWorkedDay}
-use Rattle.roster_state.proofs.StepBounds.{runs_more_within, shifts_more_within, split_more_within, total_more_within, weekend_more_within}
+use Rattle.roster_state.proofs.TransitionBounds.{runs_more_within, shifts_more_within, split_more_within, total_more_within, weekend_more_within}
 use Rattle.roster_instance.specs.Limits.{most_small}
 use Rattle.roster_instance.specs.Small.{HasSmallNumbers}
 use Rattle.roster_rules.proofs.RunBounds.{where_within}
@@ -29,20 +29,20 @@ both_off runs t u run e = rw (ne_eqb t.0 u.0 e, ne_eqb u.0 t.0 (λ i. e (sym i))
 
 -- the shift of the last day goes on
 pub shift_goes_on : (c : Meaning) (s : Summary) (t u : Shift) → s.last ≡ Some t → t.0 ≡ u.0 → IfSome s.last (λ t. t.0 < shift_count c) → u.0 < shift_count c → shifts_more c s (Some u) ≡ shift_run_weight * day_violations (run_of_shift c u.0) s.shift_run true
-shift_goes_on c s t u is e last known =
-    shifts_by_two c s (Some u) last known ∙ ap (λ o. both (run_of_shift c) o s.shift_run u) is ∙ both_on (run_of_shift c) t u s.shift_run e
+shift_goes_on c s t u is e last given =
+    shifts_by_two c s (Some u) last given ∙ ap (λ o. both (run_of_shift c) o s.shift_run u) is ∙ both_on (run_of_shift c) t u s.shift_run e
 
 -- or it ends, and another one begins
 pub shift_begins : (c : Meaning) (s : Summary) (t u : Shift) → s.last ≡ Some t → t.0 ≢ u.0 → IfSome s.last (λ t. t.0 < shift_count c) → u.0 < shift_count c → shifts_more c s (Some u) ≡ shift_run_weight * ended (run_of_shift c) s.last s.shift_run None + shift_run_weight * day_violations (run_of_shift c u.0) 0 true
-shift_begins c s t u is e last known =
-    shifts_by_two c s (Some u) last known ∙ ap (λ o. both (run_of_shift c) o s.shift_run u) is ∙ both_off (run_of_shift c) t u s.shift_run e
+shift_begins c s t u is e last given =
+    shifts_by_two c s (Some u) last given ∙ ap (λ o. both (run_of_shift c) o s.shift_run u) is ∙ both_off (run_of_shift c) t u s.shift_run e
     ∙ ap (λ o. shift_run_weight * ended (run_of_shift c) o s.shift_run None + shift_run_weight * day_violations (run_of_shift c u.0) 0 true) (sym is)
 
 -- or one begins after a day off
 pub shift_enters : (c : Meaning) (s : Summary) (u : Shift) → s.last ≡ None → u.0 < shift_count c → shifts_more c s (Some u) ≡ shift_run_weight * ended (run_of_shift c) s.last s.shift_run None + shift_run_weight * day_violations (run_of_shift c u.0) 0 true
-shift_enters c s u is known =
+shift_enters c s u is given =
     let last : IfSome s.last (λ t. t.0 < shift_count c) = subst (λ (o : Option Shift). IfSome o (λ t. t.0 < shift_count c)) (sym is) tt in
-    shifts_by_two c s (Some u) last known ∙ ap (λ o. both (run_of_shift c) o s.shift_run u) is
+    shifts_by_two c s (Some u) last given ∙ ap (λ o. both (run_of_shift c) o s.shift_run u) is
     ∙ ap (λ o. shift_run_weight * ended (run_of_shift c) o s.shift_run None + shift_run_weight * day_violations (run_of_shift c u.0) 0 true) (sym is)
 
 -- a run that ends misses little
@@ -57,12 +57,12 @@ module _ (c : Meaning) (n day : ℕ) (s : Summary) (worked : WorkedDay) (is : Is
   unfolding next_of
   state_worked run shift_run = (λ i. record { last = Some u; run = is.run i; shift_run = shift_run i; assignments = is.assignments i; weekends = is.weekends i })
 
-  pub cost_worked : (cost : ℕ) → cost ≡ shifts_more c s (Some u) → worked.cost + cost ≡ step_cost c n day s (Some u)
-  unfolding step_cost
+  pub cost_worked : (cost : ℕ) → cost ≡ shifts_more c s (Some u) → worked.cost + cost ≡ transition_cost c n day s (Some u)
+  unfolding transition_cost
   cost_worked cost shifts = omega (arith, is.cost u, shifts)
 
-  pub cost_within : HasSmallNumbers c → step_cost c n day s (Some u) ≤ most_of_step
-  unfolding step_cost
+  pub cost_within : HasSmallNumbers c → transition_cost c n day s (Some u) ≤ most_of_transition
+  unfolding transition_cost
   cost_within small =
       omega (arith, runs_more_within c n s (Some u) small, shifts_more_within c n s (Some u) small, total_more_within c n s (Some u), split_more_within c n s (Some u) day, weekend_more_within c n s (Some u) day)
 

@@ -1,5 +1,5 @@
--- The numbers of the states of a nurse's search: a state is a digit of each of its five numbers, with the assignments last.
--- So states that differ in their assignments alone stand beside one another (our own).
+-- The codes of the states of a nurse's search: a code has a digit for each of the five numbers, with the
+-- assignments last. So states that differ in their assignments alone have consecutive codes (our own).
 use Rattle.std.specs.Prelude.{ℕ, ◌+◌, ◌-◌, ◌*◌, ◌/◌, ◌%◌, Bool, ◌&&◌, ◌<◌, ◌≤◌, max, nat_lt, if◌then◌else◌, map, Option, Some, None}
 use Rattle.roster_instance.specs.declared.choice.Shift.{Shift}
 use Rattle.roster_instance.specs.Meaning.{Meaning, contract_of, shift_at, shift_count}
@@ -25,15 +25,15 @@ sizes_of c n = record {
   weekends = (contract_of c n).weekends + 1;
 }
 
--- how many states there are
+-- the number of states
 abbrev pub product : Sizes → ℕ
 product z = z.last * z.run * z.shift_run * z.assignments * z.weekends
 
--- how many times as many as there are values of the assignments
+-- the number of blocks, each of which has as many states as the assignments have values
 abbrev pub blocks : Sizes → ℕ
 blocks z = z.last * z.run * z.shift_run * z.weekends
 
--- the last shift as a number: 0 where there is none
+-- the last shift as a number, 0 for none
 abbrev pub shift_digit : Option Shift → ℕ
 shift_digit None = 0
 shift_digit (Some s) = s.0 + 1
@@ -43,13 +43,17 @@ shift_numbered n = if nat_lt 0 n then Some (shift_at (n - 1)) else None
 
 -- each number of the state is one of its values
 abbrev pub fits_sizes : Sizes → Summary → Bool
-fits_sizes z s = nat_lt (shift_digit s.last) z.last && nat_lt s.run z.run && nat_lt s.shift_run z.shift_run && nat_lt s.assignments z.assignments && nat_lt s.weekends z.weekends
+fits_sizes z s =
+    nat_lt (shift_digit s.last) z.last && nat_lt s.run z.run && nat_lt s.shift_run z.shift_run
+    && nat_lt s.assignments z.assignments && nat_lt s.weekends z.weekends
 
--- the number of a state
+-- the code of a state
 unfoldable pub code_of : Sizes → Summary → ℕ
-code_of z s = (((shift_digit s.last * z.run + s.run) * z.shift_run + s.shift_run) * z.weekends + s.weekends) * z.assignments + s.assignments
+code_of z s =
+    (((shift_digit s.last * z.run + s.run) * z.shift_run + s.shift_run) * z.weekends + s.weekends)
+    * z.assignments + s.assignments
 
--- the state whose numbers are the digits of a number
+-- the state whose numbers are the digits of a code
 unfoldable pub state_numbered : Sizes → ℕ → Summary
 state_numbered z code = record {
   last = shift_numbered (code / z.assignments / z.weekends / z.shift_run / z.run);
@@ -59,17 +63,18 @@ state_numbered z code = record {
   weekends = code / z.assignments % z.weekends;
 }
 
--- the state of a number, none from the product on
+-- the state of a code, none from the product on
 unfoldable pub state_at : Sizes → ℕ → Option Summary
 state_at z code = if nat_lt code (product z) then Some (state_numbered z code) else None
 
--- one value at least, and so many at most
+-- at least one value, and no more than `most`
 pub record IsWithin (most size : ℕ) : Type 0 where
   pub some : 0 < size
   pub few : size ≤ most
 
--- what the sizes of every nurse keep, since the numbers of a case are small: a value for each shift and one more for the last
--- shift, those from 0 to the greatest small number for each other, and together not more states than the search takes
+-- what the sizes of every nurse keep, since the numbers of a case are small: a value for each shift and one
+-- more for the last shift, those from 0 to the greatest small number for each other, and together no more
+-- states than the search takes
 pub record KeepLimits (z : Sizes) : Type 0 where
   pub last : IsWithin (most_shifts + 1) z.last
   pub run : IsWithin (most_small + 1) z.run

@@ -1,9 +1,9 @@
-pub mod Step
-pub mod Areas
+pub mod Transition
+pub mod Boxes
 pub mod Blocks
 pub mod Codes
-pub mod FloorLines
-pub mod Room
-pub mod Standing
-pub mod Stretches
+pub mod CompletionLines
+pub mod MostCosts
+pub mod Reachable
+pub mod Spans
 pub mod Worked

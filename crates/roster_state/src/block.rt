@@ -1,4 +1,4 @@
-//! The states that differ in their assignments alone, and one day more from all of them at once.
+//! The states that differ in their assignments alone, and one more day from all of them at once.
 
 ghost use Rattle.std.specs.Prelude.{◌≡◌, ◌↔◌, ◌+◌, ◌*◌, ◌<◌, ◌≤◌, ◌&&◌, ◌||◌, ℕ, true, nat_le, IfSome, IsNone, Some, is_some};
 ghost use Rattle.roster_instance.specs.Meaning.{contract_of, forbids, nurse_count, shift_count};
@@ -6,15 +6,15 @@ ghost use Rattle.roster_instance.specs.Sizes.{cap};
 ghost use Rattle.roster_rules.specs.Weights.{assignment_weight};
 ghost use Rattle.roster_state.specs.Blocks.{AreBlockSteps};
 ghost use Rattle.roster_state.specs.Codes.{blocks, code_of, fits_sizes, product, shift_digit, shift_numbered, sizes_of, state_at};
-ghost use Rattle.roster_state.specs.Room.{most_of_step};
-ghost use Rattle.roster_state.specs.Standing.{can_be, excess};
-ghost use Rattle.roster_state.specs.Step.{with_assignments, with_weekends};
+ghost use Rattle.roster_state.specs.MostCosts.{most_of_transition};
+ghost use Rattle.roster_state.specs.Reachable.{can_be, excess};
+ghost use Rattle.roster_state.specs.Transition.{with_assignments, with_weekends};
 
 use crate::days::NurseDays;
 use crate::ranges::Ranges;
 use crate::state::{State, shift_digit, shift_numbered};
-use crate::step::{cost_apart, next_of};
 use crate::totals::dearer_from;
+use crate::transition::{cost_apart, next_of};
 use roster_instance::{Border, Case, ContractRules, Limits, Past, Shift};
 use roster_rules::weights::ASSIGNMENT;
 use std::cmp::min;
@@ -53,8 +53,8 @@ impl Block {
         }
     }
 
-    /// The block with a number: that many blocks are before it. The places of the blocks together are all states, in the order
-    /// of their codes.
+    /// The block with a number, which is the number of blocks before it. The places of all blocks together
+    /// are all states, in the order of their codes.
     pub fn numbered(ranges: &Ranges, number: u32) -> Block
         requires { number < blocks ranges.now }
         ensures states { (a : ℕ) → a < ranges.now.assignments →
@@ -78,7 +78,8 @@ impl Block {
         }
     }
 
-    /// The block with a last shift by its number, 0 where there is none, and these runs, without worked weekends.
+    /// The block with these runs and without worked weekends, for a last shift given by its number, 0 for
+    /// none.
     #[inline(always)]
     pub fn of_runs(last: u32, run: u16, shift_run: u16) -> Block
         requires { last ≤ 256 }
@@ -101,7 +102,7 @@ impl Block {
         }
     }
 
-    /// The last shift as a number, 0 where there is none.
+    /// The last shift as a number, 0 for none.
     #[inline(always)]
     pub fn last_number(&self) -> u32
         ensures number { result ≡ shift_digit self.now.last }
@@ -109,7 +110,7 @@ impl Block {
         shift_digit(self.state.last)
     }
 
-    /// The block with so many worked weekends.
+    /// The block with that many worked weekends.
     #[inline(always)]
     pub fn with_weekends(self, weekends: u16) -> Block
         ensures { result ≡ with_weekends self weekends }
@@ -141,7 +142,7 @@ impl Block {
         }
     }
 
-    /// How many places a block has: the greater of the least and the greatest total, and one more.
+    /// The number of places of a block: one more than the greater of the least and the greatest total.
     pub fn places(&self, ranges: &Ranges) -> u32
         ensures places { result ≡ ranges.now.assignments }
         ensures within { result ≤ 1000 }
@@ -162,9 +163,10 @@ impl Block {
 }
 
 impl NurseDays<'_> {
-    /// Whether a row may lead to a block's states: a run of days off goes with no run of a shift, and a run of a shift is no longer than
-    /// the working days in a row, as far as these are told apart and the history doesn't say otherwise. What a search leaves out by
-    /// this no row meets, since it holds before the first day and goes on from day to day.
+    /// Whether a row can lead to a block's states. After a day off there is no run of a shift. After a worked
+    /// day the run of its shift is no longer than the run of working days, except if the history says
+    /// otherwise or the latter is at its cap, above which it isn't counted. This holds before the first day
+    /// and is kept from day to day, so no row meets a state that a search leaves out for it.
     #[inline(always)]
     pub fn can_be(&self, block: &Block) -> bool
         requires nurse { self.now.nurse < nurse_count self.now.case.now }
@@ -183,8 +185,8 @@ impl NurseDays<'_> {
     }
 }
 
-/// Whether the runs of a working state are within their caps, and that of the shift no longer than that of the working days and so
-/// many days more, where these aren't as many as are told apart.
+/// Whether the runs of a working state are within their caps, and that of the shift is longer than that of
+/// the working days by no more than `more` days, unless the working days are at their cap.
 #[inline(always)]
 fn can_work(state: &State, working: Limits, shift: Limits, more: u32) -> bool
     requires { more ≤ 65535 }
@@ -198,7 +200,7 @@ fn can_work(state: &State, working: Limits, shift: Limits, more: u32) -> bool
         && (is_full || state.shift_run as u32 <= state.run as u32 + more)
 }
 
-/// How many days more the history counts of its last shift than of working days.
+/// How many more days the history counts for its last shift than for working days.
 #[inline(always)]
 fn excess(past: Past) -> u32
     ensures days { result ≡ excess past.border }
@@ -220,21 +222,22 @@ pub struct BlockStep {
     /// The block after the day.
     pub next: Block,
 
-    /// Whether each place goes to the next one, while the last place stays; else each stays where it is.
+    /// Whether each place goes to the next one, except for the last place, which stays; otherwise all stay
+    /// where they are.
     pub moves: bool,
 
-    /// What the day costs each place, in penalty points, but for an assignment above the greatest total.
+    /// What the day costs at each place, in penalty points, without an assignment above the greatest total.
     pub cost: u32,
 
-    /// From this place on the day costs the points for an assignment above the greatest total besides, 20. The number of places
-    /// where it does at none.
+    /// The first place from which on the day costs 20 points more, for an assignment above the greatest
+    /// total. It is the number of places if there is none.
     pub dearer_from: u32,
 }
 
 impl BlockStep {
     ghost use Rattle.roster_state.specs.Blocks.{place_after, place_cost};
 
-    /// To which of so many places a place goes.
+    /// The place to which a place goes, in a block of that many places.
     #[inline(always)]
     pub fn place_after(&self, places: u32, place: u32) -> u32
         requires { place < places }
@@ -247,12 +250,12 @@ impl BlockStep {
         min(place + 1, places - 1)
     }
 
-    /// What the day costs a place, in penalty points.
+    /// What the day costs at a place, in penalty points.
     #[inline(always)]
     pub fn place_cost(&self, place: u32) -> u32
-        requires { self.now.cost + assignment_weight ≤ most_of_step }
+        requires { self.now.cost + assignment_weight ≤ most_of_transition }
         ensures cost { result ≡ place_cost self.now place }
-        ensures within { result ≤ most_of_step }
+        ensures within { result ≤ most_of_transition }
     {
         if place < self.dearer_from {
             return self.cost;
@@ -261,7 +264,7 @@ impl BlockStep {
     }
 }
 
-/// One day more from all states of a block, by the nurse's rules. It counts nothing.
+/// One more day from all states of a block, by the nurse's rules. It counts nothing.
 #[inline(always)]
 pub(crate) fn block_step(
     case: &Case,
@@ -275,12 +278,13 @@ pub(crate) fn block_step(
     requires shift { IfSome shift (λ s. s.0 < shift_count case.now) }
     requires fits { fits_sizes (sizes_of case.now nurse) block ≡ true }
     ensures forbidden { IsNone result ↔ forbids case.now.successions block.last shift ≡ true }
-    ensures steps { AreBlockSteps case.now nurse day block shift result }
-    ensures next_fits { IfSome result (λ step. fits_sizes (sizes_of case.now nurse)
-        step.next ≡ true) }
-    ensures dearer { IfSome result (λ step. step.dearer_from
+    ensures transitions { AreBlockSteps case.now nurse day block shift result }
+    ensures next_fits { IfSome result (λ transition. fits_sizes (sizes_of case.now nurse)
+        transition.next ≡ true) }
+    ensures dearer { IfSome result (λ transition. transition.dearer_from
         ≤ (sizes_of case.now nurse).assignments) }
-    ensures within { IfSome result (λ step. step.cost + assignment_weight ≤ most_of_step) }
+    ensures within { IfSome result
+        (λ transition. transition.cost + assignment_weight ≤ most_of_transition) }
 {
     if case.forbids_next(block.state.last, shift) {
         return None;

@@ -5,7 +5,8 @@ ghost use Rattle.roster_instance.specs.Meaning.{contract_of};
 
 use roster_instance::{Case, ContractRules};
 
-/// What days of a nurse are taken by: the case, the nurse, and the nurse's rules, looked up once for many days.
+/// What the transitions of a nurse are computed from: the case, the nurse, and the nurse's rules, looked up
+/// once for many days.
 #[derive(Clone, Copy)]
 pub struct NurseDays<'a> {
     pub case: &'a Case,

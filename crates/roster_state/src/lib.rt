@@ -1,35 +1,38 @@
-//! The state of one nurse, from day to day: what the search for a row keeps of the days before.
+//! The state of one nurse from day to day: what the search for a row needs to know of the days before.
 //!
-//! One day more is defined in `specs/Step.antt`, and the codes of states in `specs/Codes.antt`. `state` and `ranges` have a state and its
-//! code; `step` and `totals` the state before the first day, a day more, and what is due in the end. Searches take a day by what it brings
-//! whatever the shift (`worked`), by the nurse's rules (`days`): from a state, or from all of a `stretch` at once (`specs/Stretches.antt`).
-//! `area` says which states may stand on a day (`specs/Areas.antt`), `line` sets floors (`specs/FloorLines.antt`), `look` asks what a last
-//! shift forbids, and `meter` counts. `block` and `reference` take a day by the case alone: what searches do is compared with it.
+//! A transition, one more day from a state, is defined in `specs/Transition.antt`, and the codes of states in
+//! `specs/Codes.antt`. `state` and `ranges` have a state and its code; `transition` and `totals` have the
+//! state before the first day, a transition, and what is due in the end. Searches first compute what a worked
+//! day brings whatever the shift (`worked`), by the nurse's rules (`days`), from one state or from all states
+//! of a `span` at once (`specs/Spans.antt`). `state_box` bounds the states that are reachable on a day
+//! (`specs/Boxes.antt`), `line` sets completion bounds (`specs/CompletionLines.antt`), `succession` asks
+//! whether a last shift forbids the next, and `meter` counts extensions. `block` and `reference` compute a
+//! transition from the case alone: what searches do is compared with them.
 #![tactic(auto)]
 
-mod area;
 mod block;
 mod days;
 mod line;
-mod look;
 mod meter;
 mod ranges;
 mod reference;
+mod span;
 mod state;
-mod step;
-mod stretch;
+mod state_box;
+mod succession;
 mod totals;
+mod transition;
 mod worked;
 
-pub use area::{AREAS, Area, NOWHERE, Span, areas_of, widen};
 pub use block::{Block, BlockStep};
 pub use days::NurseDays;
 pub use line::{LineCosts, fill_line, set_line};
-pub use look::is_forbidden;
 pub use meter::Meter;
 pub use ranges::Ranges;
 pub use reference::{extend, extend_block};
+pub use span::Span;
 pub use state::State;
-pub use step::{after, end_cost, start};
-pub use stretch::Stretch;
+pub use state_box::{BOXES, EMPTY_BOX, Interval, StateBox, boxes_of, widen};
+pub use succession::is_forbidden;
+pub use transition::{after, end_cost, start};
 pub use worked::WorkedDay;

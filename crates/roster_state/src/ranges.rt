@@ -10,8 +10,9 @@ use roster_instance::{Case, MAX_STATES};
 use std::cmp::max;
 use std::marker::Model;
 
-/// How many values each of the five numbers of a nurse's state has: the last shift or none, the run of working days or
-/// days off, the run of the shift, the assignments and the worked weekends, each from 0 up to its cap.
+/// The number of values that each of the five numbers of a nurse's state has: the last shift or none, the run
+/// of working days or days off, the run of the shift, the assignments and the worked weekends. Each goes from
+/// 0 up to its cap.
 #[derive(Clone, Copy)]
 pub struct Ranges {
     pub(crate) last: u32,
@@ -26,11 +27,29 @@ impl Model for Ranges {
 
     ghost Value = { Sizes };
 
-    ghost view = { λ r. record { last = r.last; run = r.run; shift_run = r.shift_run; assignments = r.assignments; weekends = r.weekends } };
+    ghost view = { λ r. record {
+      last = r.last;
+      run = r.run;
+      shift_run = r.shift_run;
+      assignments = r.assignments;
+      weekends = r.weekends;
+    } };
 
-    ghost inverse = { λ z. record { last = z.last; run = z.run; shift_run = z.shift_run; assignments = z.assignments; weekends = z.weekends } };
+    ghost inverse = { λ z. record {
+      last = z.last;
+      run = z.run;
+      shift_run = z.shift_run;
+      assignments = z.assignments;
+      weekends = z.weekends;
+    } };
 
-    ghost invariant = { λ r. KeepLimits (record { last = r.last; run = r.run; shift_run = r.shift_run; assignments = r.assignments; weekends = r.weekends }) };
+    ghost invariant = { λ r. KeepLimits (record {
+      last = r.last;
+      run = r.run;
+      shift_run = r.shift_run;
+      assignments = r.assignments;
+      weekends = r.weekends;
+    }) };
 }
 
 impl Ranges {
@@ -53,7 +72,7 @@ impl Ranges {
         }
     }
 
-    /// How many states there are, from 1 to 1,048,576.
+    /// The number of states, from 1 to 1,048,576.
     pub fn product(&self) -> u32
         ensures product { result ≡ product self.now }
         ensures some { 0 < result }
@@ -62,7 +81,7 @@ impl Ranges {
         self.last * self.run * self.shift_run * self.assignments * self.weekends
     }
 
-    /// How many last shifts there are, with none.
+    /// The number of last shifts, none included.
     pub fn last(&self) -> u32
         ensures last { result ≡ self.now.last }
         ensures within { result ≤ 9 }
@@ -70,7 +89,7 @@ impl Ranges {
         self.last
     }
 
-    /// How many values the run of working days or days off has.
+    /// The number of values of the run of working days or days off.
     pub fn run(&self) -> u32
         ensures run { result ≡ self.now.run }
         ensures within { result ≤ 1000 }
@@ -78,7 +97,7 @@ impl Ranges {
         self.run
     }
 
-    /// How many values the run of the shift has.
+    /// The number of values of the run of the shift.
     pub fn shift_run(&self) -> u32
         ensures shift_run { result ≡ self.now.shift_run }
         ensures within { result ≤ 1000 }
@@ -86,7 +105,8 @@ impl Ranges {
         self.shift_run
     }
 
-    /// How many states differ in their assignments alone: a block of numbers beside one another.
+    /// The number of states that differ in their assignments alone. They form a block, and their codes are
+    /// consecutive.
     pub fn assignments(&self) -> u32
         ensures assignments { result ≡ self.now.assignments }
         ensures within { result ≤ 1000 }
@@ -94,7 +114,7 @@ impl Ranges {
         self.assignments
     }
 
-    /// How many values the worked weekends have.
+    /// The number of values of the worked weekends.
     pub fn weekends(&self) -> u32
         ensures weekends { result ≡ self.now.weekends }
         ensures within { result ≤ 1000 }
@@ -103,7 +123,7 @@ impl Ranges {
         self.weekends
     }
 
-    /// How many blocks of such states there are.
+    /// The number of such blocks.
     pub fn blocks(&self) -> u32
         ensures blocks { result ≡ blocks self.now }
         ensures some { 0 < result }

@@ -8,8 +8,8 @@ use crate::ranges::Ranges;
 use roster_instance::Shift;
 use std::marker::Model;
 
-/// What the costs of the days to come depend on: the last shift or none, the days in a row of work or off, the days in a
-/// row with that shift, the assignments and the worked weekends, each up to its cap.
+/// What the costs of the days to come depend on: the last shift or none, the run of working days or days off,
+/// the run of that shift, the assignments and the worked weekends, each up to its cap.
 #[derive(Clone, Copy, Default)]
 pub struct State {
     pub(crate) last: Option<Shift>,
@@ -24,13 +24,25 @@ impl Model for State {
 
     ghost Value = { Summary };
 
-    ghost view = { λ s. record { last = s.last; run = s.run; shift_run = s.shift_run; assignments = s.assignments; weekends = s.weekends } };
+    ghost view = { λ s. record {
+      last = s.last;
+      run = s.run;
+      shift_run = s.shift_run;
+      assignments = s.assignments;
+      weekends = s.weekends;
+    } };
 
-    ghost inverse = { λ s. record { last = s.last; run = s.run; shift_run = s.shift_run; assignments = s.assignments; weekends = s.weekends } };
+    ghost inverse = { λ s. record {
+      last = s.last;
+      run = s.run;
+      shift_run = s.shift_run;
+      assignments = s.assignments;
+      weekends = s.weekends;
+    } };
 }
 
 impl State {
-    /// The last shift as a number, 0 where there is none.
+    /// The last shift as a number, 0 for none.
     #[inline(always)]
     pub fn last_number(&self) -> u32
         ensures number { result ≡ shift_digit self.now.last }
@@ -38,7 +50,7 @@ impl State {
         shift_digit(self.last)
     }
 
-    /// The days in a row of work or off.
+    /// The run of working days or days off.
     #[inline(always)]
     pub fn run(&self) -> u16
         ensures { result ≡ self.now.run }
@@ -46,7 +58,7 @@ impl State {
         self.run
     }
 
-    /// The days in a row with the last shift.
+    /// The run of the last shift, in days.
     #[inline(always)]
     pub fn shift_run(&self) -> u16
         ensures { result ≡ self.now.shift_run }
@@ -81,14 +93,14 @@ impl State {
             && (self.weekends as u32) < ranges.weekends
     }
 
-    /// The number of the state, below the product of the ranges. States that differ in their assignments alone have
-    /// numbers beside one another.
+    /// The code of the state, below the product of the ranges. States that differ in their assignments alone
+    /// have consecutive codes.
     pub fn code(&self, ranges: &Ranges) -> u32
         requires { fits_sizes ranges.now self.now ≡ true }
         ensures code { result ≡ code_of ranges.now self.now }
         ensures within { result < product ranges.now }
 
-        // Each state that fits has a number of its own, and is read back from it.
+        // Each state that fits has a code of its own, and is read back from it.
         ensures one { (other : Summary) → fits_sizes ranges.now other ≡ true →
             code_of ranges.now other ≡ result → other ≡ self.now }
         ensures back { state_at ranges.now result ≡ Some self.now }
@@ -99,7 +111,7 @@ impl State {
         weekends * ranges.assignments + self.assignments as u32
     }
 
-    /// The state with a number; none has a number from the product on.
+    /// The state with a code, none from the product on.
     pub fn from_code(ranges: &Ranges, code: u32) -> Option<State>
         ensures state { result ≡ state_at ranges.now code }
         ensures none { IsNone result ↔ product ranges.now ≤ code }
@@ -122,7 +134,7 @@ impl State {
     }
 }
 
-/// The last shift as a number, 0 where there is none.
+/// The last shift as a number, 0 for none.
 pub(crate) fn shift_digit(last: Option<Shift>) -> u32
     ensures number { result ≡ shift_digit last }
     ensures within { result ≤ 256 }

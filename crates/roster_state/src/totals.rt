@@ -1,5 +1,5 @@
-//! The totals of a nurse: assignments, S6, and worked weekends, S7. What the history has above the greatest numbers, how many a day
-//! adds and what it costs, and what is missing in the end.
+//! The totals of a nurse: assignments, S6, and worked weekends, S7. What the history has above the greatest
+//! numbers, how many a day adds and what it costs, and what is missing in the end.
 
 ghost use Rattle.std.specs.Prelude.{◌≡◌, ◌+◌, ◌*◌, ◌≤◌, [], if◌then◌else◌, is_some, min, nat_le};
 ghost use Rattle.roster_instance.specs.Counting.{one_if};
@@ -9,15 +9,15 @@ ghost use Rattle.roster_instance.specs.Small.{IsSmallPast};
 ghost use Rattle.roster_rules.specs.DayLaw.{weekends_more};
 ghost use Rattle.roster_rules.specs.Prefix.{due};
 ghost use Rattle.roster_rules.specs.Weights.{assignment_weight, weekend_weight};
-ghost use Rattle.roster_state.specs.Room.{most_at_end, most_at_start};
-ghost use Rattle.roster_state.specs.Step.{end_cost_of};
+ghost use Rattle.roster_state.specs.MostCosts.{most_at_end, most_at_start};
+ghost use Rattle.roster_state.specs.Transition.{end_cost_of};
 
 use crate::state::State;
 use roster_instance::{Case, ContractRules, Limits, Past, Shift};
 use roster_rules::weights::{ASSIGNMENT, WEEKEND};
 use std::cmp::min;
 
-/// The points for the assignments and the worked weekends of the history above the greatest numbers.
+/// The points for the history's assignments and worked weekends above the greatest numbers.
 pub(crate) fn start_cost(case: &Case, nurse: usize, past: Past) -> u32
     requires past { past ≡ past_of case.now nurse }
     requires small { IsSmallPast past }
@@ -30,7 +30,7 @@ pub(crate) fn start_cost(case: &Case, nurse: usize, past: Past) -> u32
     ASSIGNMENT * assignments + WEEKEND * weekends
 }
 
-/// The assignments and the worked weekends after a day more, up to their caps.
+/// The assignments and the worked weekends after one more day, up to their caps.
 #[inline(always)]
 pub(crate) fn totals_after(
     rules: ContractRules,
@@ -52,7 +52,7 @@ pub(crate) fn totals_after(
     )
 }
 
-/// A worked Saturday is a worked weekend more, and a worked Sunday where the Saturday is free.
+/// A worked Saturday makes one more worked weekend, and so does a worked Sunday after a free Saturday.
 pub(crate) fn weekends_more(day: u16, before: Option<Shift>, now: Option<Shift>) -> u32
     ensures more { result ≡ weekends_more day (is_some before) (is_some now) }
     ensures within { result ≤ 1 }
@@ -76,7 +76,7 @@ pub(crate) fn assignment_more(total: Limits, assignments: u32) -> u32
     ASSIGNMENT
 }
 
-/// S6. The points for an assignment of the day, where it is above the greatest total.
+/// S6. The points for an assignment on the day, if it is above the greatest total.
 #[inline(always)]
 pub(crate) fn total_more(rules: ContractRules, state: State, shift: Option<Shift>) -> u32
     ensures cost { result ≡ (if is_some shift then (if nat_le rules.total.greatest state.assignments
@@ -89,8 +89,8 @@ pub(crate) fn total_more(rules: ContractRules, state: State, shift: Option<Shift
     }
 }
 
-/// S6. From which place of a block on an assignment of the day is above the greatest total. Where the nurse is off, from none: the number
-/// of places.
+/// S6. The first place of a block from which on an assignment on the day is above the greatest total. It is
+/// the number of places if the nurse is off.
 #[inline(always)]
 pub(crate) fn dearer_from(total: Limits, shift: Option<Shift>) -> u32
     ensures { result ≡ (if is_some shift then total.greatest else cap total + 1) }

@@ -1,29 +1,31 @@
-//! A worked day, whatever the shift: what is the same for all shifts is reckoned once.
+//! A worked day, whatever the shift: what is the same for all shifts is computed once.
 
 ghost use Rattle.std.specs.Prelude.{◌≡◌, ◌+◌, ◌*◌, ◌<◌, ◌≤◌, ◌-◌, true, IfSome, None, Some, is_some};
 ghost use Rattle.roster_bundle.specs.Limits.{greatest_u64};
 ghost use Rattle.roster_instance.specs.Meaning.{run_of_shift, shift_count};
 ghost use Rattle.roster_rules.specs.Weights.{shift_run_weight};
 ghost use Rattle.roster_state.specs.Codes.{fits_sizes, sizes_of};
-ghost use Rattle.roster_state.specs.Room.{most_of_step};
-ghost use Rattle.roster_state.specs.Step.{ended, shifts_more, step_of, with_assignments};
-ghost use Rattle.roster_state.specs.Stretches.{AreStretchSteps, IsAlike};
+ghost use Rattle.roster_state.specs.MostCosts.{most_of_transition};
+ghost use Rattle.roster_state.specs.Transition.{ended, shifts_more, transition_of, with_assignments};
+ghost use Rattle.roster_state.specs.Spans.{AreSpanTransitions, IsAlike};
 ghost use Rattle.roster_state.specs.Worked.{IsWorkedDay};
 
 use crate::days::NurseDays;
 use crate::meter::Meter;
+use crate::span::Span;
 use crate::state::State;
-use crate::step::{ended, longer, open_shift_run, runs_more, split_more, step, working_run};
-use crate::stretch::Stretch;
 use crate::totals::{assignment_more, totals_after, weekend_more};
+use crate::transition::{
+    ended, longer, open_shift_run, runs_more, split_more, transition, working_run,
+};
 use roster_instance::{Case, Shift};
 use roster_rules::weights::SHIFT_RUN;
 
-/// What a worked day brings to a state, whatever the shift. What it costs is read in this crate alone: others learn the cost of a step
-/// where the step is counted, by `extend` or `extend_stretch`.
+/// What a worked day brings to a state, whatever the shift. Its cost is read in this crate alone: other
+/// crates get the cost of a transition from `extend` or `extend_span`, which count it.
 #[derive(Clone, Copy)]
 pub struct WorkedDay {
-    /// The working days in a row after it.
+    /// The run of working days after it.
     pub(crate) run: u16,
     /// The assignments after it.
     pub assignments: u16,
@@ -31,11 +33,11 @@ pub struct WorkedDay {
     pub weekends: u16,
     /// What it costs in penalty points, but for the runs of shifts.
     pub(crate) cost: u32,
-    /// What the run of the last shift misses in penalty points, where it ends.
+    /// What the run of the last shift misses, in penalty points, if it ends.
     pub(crate) left: u32,
 }
 
-/// Any shift, where it is asked only whether one is worked.
+/// Any shift, for questions that depend only on whether one is worked.
 const ANY: Option<Shift> = Some(Shift(0));
 
 impl NurseDays<'_> {
@@ -59,20 +61,21 @@ impl NurseDays<'_> {
         }
     }
 
-    /// What a worked day brings to the first state of a stretch.
+    /// What a worked day brings to the first state of a span.
     #[inline(always)]
-    pub fn worked_stretch(&self, day: u16, stretch: &Stretch) -> WorkedDay
-        requires places { stretch.now.begin
+    pub fn worked_span(&self, day: u16, span: &Span) -> WorkedDay
+        requires places { span.now.begin
             < (sizes_of self.now.case.now self.now.nurse).assignments }
         ensures { IsWorkedDay self.now.case.now self.now.nurse day
-            (with_assignments stretch.now.block stretch.now.begin) result }
+            (with_assignments span.now.block span.now.begin) result }
     {
         self.case.keeps_limits();
-        self.worked(day, stretch.block.state(stretch.begin as u16))
+        self.worked(day, span.block.state(span.begin as u16))
     }
 
-    /// The state with one day more, on which the nurse works this shift or is off, and what the day costs, where it is known what a worked
-    /// day brings. None exactly where the last shift forbids the next. Either way the meter counts one.
+    /// The state after one more day, on which the nurse works this shift or is off, and what the day costs.
+    /// What a worked day brings to the state is passed in. None exactly if the last shift forbids the next.
+    /// Either way the meter counts one.
     #[inline(always)]
     pub fn extend(
         &self,
@@ -87,62 +90,63 @@ impl NurseDays<'_> {
         requires worked { IsWorkedDay self.now.case.now self.now.nurse day state worked.now }
         requires room { meter.old < greatest_u64 }
         ensures counted { meter.new ≡ meter.old + 1 }
-        ensures step { result ≡ step_of self.now.case.now self.now.nurse day state shift }
-        ensures next_fits { IfSome result
-            (λ step. fits_sizes (sizes_of self.now.case.now self.now.nurse) step.0 ≡ true) }
-        ensures within { IfSome result (λ step. step.1 ≤ most_of_step) }
+        ensures next { result ≡ transition_of self.now.case.now self.now.nurse day state shift }
+        ensures next_fits { IfSome result (λ transition. fits_sizes
+            (sizes_of self.now.case.now self.now.nurse) transition.0 ≡ true) }
+        ensures within { IfSome result (λ transition. transition.1 ≤ most_of_transition) }
 
         // What a worked day brings is in the state after it.
         ensures works { is_some shift ≡ true → IfSome result
-            (λ step. (step.0.assignments ≡ worked.now.assignments)
-            × (step.0.weekends ≡ worked.now.weekends)) }
+            (λ transition. (transition.0.assignments ≡ worked.now.assignments)
+            × (transition.0.weekends ≡ worked.now.weekends)) }
     {
         meter.add(1);
-        self.step(day, state, worked, shift)
+        self.transition(day, state, worked, shift)
     }
 
-    /// One day more from all states of a stretch from which it is alike, on which the nurse works this shift or is off, where it is known
-    /// what a worked day brings to the first state: the state to which it leads from the first place of the first row, and what it
-    /// costs. From each other state it costs the same, and leads to the state that is as many worked weekends and assignments further.
-    /// None exactly where the last shift forbids the next. Either way the meter counts one for each state.
+    /// One more day, on which the nurse works this shift or is off, from all states of a span that the day
+    /// treats alike. What a worked day brings to the first state is passed in. The result is the state to
+    /// which the day leads from the first place of the first strip, and what it costs. From each other state
+    /// it costs the same, and leads to the state that is as many worked weekends and assignments further.
+    /// None exactly if the last shift forbids the next. Either way the meter counts one for each state.
     #[inline(always)]
-    pub fn extend_stretch(
+    pub fn extend_span(
         &self,
         day: u16,
-        stretch: &Stretch,
+        span: &Span,
         worked: &WorkedDay,
         shift: Option<Shift>,
         meter: &mut Meter,
     ) -> Option<(State, u32)>
         requires shift { IfSome shift (λ s. s.0 < shift_count self.now.case.now) }
         requires fits { fits_sizes (sizes_of self.now.case.now self.now.nurse)
-            stretch.now.block ≡ true }
-        requires places { stretch.now.begin
+            span.now.block ≡ true }
+        requires places { span.now.begin
             < (sizes_of self.now.case.now self.now.nurse).assignments }
-        requires alike { IsAlike self.now.case.now self.now.nurse day stretch.now.block
-            stretch.now.rows stretch.now.begin stretch.now.end }
+        requires alike { IsAlike self.now.case.now self.now.nurse day span.now.block
+            span.now.strips span.now.begin span.now.end }
         requires worked { IsWorkedDay self.now.case.now self.now.nurse day
-            (with_assignments stretch.now.block stretch.now.begin) worked.now }
-        requires room { meter.old + stretch.now.rows
-            * (stretch.now.end - stretch.now.begin) ≤ greatest_u64 }
-        ensures counted { meter.new ≡ meter.old + stretch.now.rows
-            * (stretch.now.end - stretch.now.begin) }
-        ensures steps { AreStretchSteps self.now.case.now self.now.nurse day stretch.now shift
+            (with_assignments span.now.block span.now.begin) worked.now }
+        requires room { meter.old + span.now.strips
+            * (span.now.end - span.now.begin) ≤ greatest_u64 }
+        ensures counted { meter.new ≡ meter.old + span.now.strips
+            * (span.now.end - span.now.begin) }
+        ensures transitions { AreSpanTransitions self.now.case.now self.now.nurse day span.now shift
             result }
-        ensures next_fits { IfSome result
-            (λ step. fits_sizes (sizes_of self.now.case.now self.now.nurse) step.0 ≡ true) }
-        ensures within { IfSome result (λ step. step.1 ≤ most_of_step) }
+        ensures next_fits { IfSome result (λ transition. fits_sizes
+            (sizes_of self.now.case.now self.now.nurse) transition.0 ≡ true) }
+        ensures within { IfSome result (λ transition. transition.1 ≤ most_of_transition) }
     {
         self.case.keeps_limits();
-        let places = stretch.end.saturating_sub(stretch.begin);
-        meter.add(stretch.rows as u64 * places as u64);
-        let first = stretch.block.state(stretch.begin as u16);
-        self.step(day, first, worked, shift)
+        let places = span.end.saturating_sub(span.begin);
+        meter.add(span.strips as u64 * places as u64);
+        let first = span.block.state(span.begin as u16);
+        self.transition(day, first, worked, shift)
     }
 
-    /// The step from a state by a shift or a day off. It counts nothing.
+    /// The transition from a state by a shift or a day off. It counts nothing.
     #[inline(always)]
-    fn step(
+    fn transition(
         &self,
         day: u16,
         state: State,
@@ -152,23 +156,23 @@ impl NurseDays<'_> {
         requires shift { IfSome shift (λ s. s.0 < shift_count self.now.case.now) }
         requires fits { fits_sizes (sizes_of self.now.case.now self.now.nurse) state ≡ true }
         requires worked { IsWorkedDay self.now.case.now self.now.nurse day state worked.now }
-        ensures step { result ≡ step_of self.now.case.now self.now.nurse day state shift }
-        ensures next_fits { IfSome result
-            (λ step. fits_sizes (sizes_of self.now.case.now self.now.nurse) step.0 ≡ true) }
-        ensures within { IfSome result (λ step. step.1 ≤ most_of_step) }
+        ensures next { result ≡ transition_of self.now.case.now self.now.nurse day state shift }
+        ensures next_fits { IfSome result (λ transition. fits_sizes
+            (sizes_of self.now.case.now self.now.nurse) transition.0 ≡ true) }
+        ensures within { IfSome result (λ transition. transition.1 ≤ most_of_transition) }
         ensures works { is_some shift ≡ true → IfSome result
-            (λ step. (step.0.assignments ≡ worked.now.assignments)
-            × (step.0.weekends ≡ worked.now.weekends)) }
+            (λ transition. (transition.0.assignments ≡ worked.now.assignments)
+            × (transition.0.weekends ≡ worked.now.weekends)) }
     {
         match shift {
-            Some(shift) => self.step_worked(day, state, worked, shift),
-            None => self.step_off(day, state),
+            Some(shift) => self.transition_worked(day, state, worked, shift),
+            None => self.transition_off(day, state),
         }
     }
 
     /// The same for a worked shift.
     #[inline(always)]
-    fn step_worked(
+    fn transition_worked(
         &self,
         day: u16,
         state: State,
@@ -178,12 +182,14 @@ impl NurseDays<'_> {
         requires shift { shift.0 < shift_count self.now.case.now }
         requires fits { fits_sizes (sizes_of self.now.case.now self.now.nurse) state ≡ true }
         requires worked { IsWorkedDay self.now.case.now self.now.nurse day state worked.now }
-        ensures step { result ≡ step_of self.now.case.now self.now.nurse day state (Some shift) }
-        ensures next_fits { IfSome result
-            (λ step. fits_sizes (sizes_of self.now.case.now self.now.nurse) step.0 ≡ true) }
-        ensures within { IfSome result (λ step. step.1 ≤ most_of_step) }
-        ensures works { IfSome result (λ step. (step.0.assignments ≡ worked.now.assignments)
-            × (step.0.weekends ≡ worked.now.weekends)) }
+        ensures next { result ≡ transition_of self.now.case.now self.now.nurse day state
+            (Some shift) }
+        ensures next_fits { IfSome result (λ transition. fits_sizes
+            (sizes_of self.now.case.now self.now.nurse) transition.0 ≡ true) }
+        ensures within { IfSome result (λ transition. transition.1 ≤ most_of_transition) }
+        ensures works { IfSome result (λ transition.
+            (transition.0.assignments ≡ worked.now.assignments) ×
+            (transition.0.weekends ≡ worked.now.weekends)) }
     {
         let case = self.case;
         case.keeps_limits();
@@ -204,24 +210,26 @@ impl NurseDays<'_> {
         ))
     }
 
-    /// The same for a day off. It is compiled for a day off after a worked one and after another day off apart.
+    /// The same for a day off. The two arms are compiled separately, for a day off after a worked day and
+    /// after another day off.
     #[inline(always)]
-    fn step_off(&self, day: u16, state: State) -> Option<(State, u32)>
+    fn transition_off(&self, day: u16, state: State) -> Option<(State, u32)>
         requires fits { fits_sizes (sizes_of self.now.case.now self.now.nurse) state ≡ true }
-        ensures step { result ≡ step_of self.now.case.now self.now.nurse day state None }
-        ensures next_fits { IfSome result
-            (λ step. fits_sizes (sizes_of self.now.case.now self.now.nurse) step.0 ≡ true) }
-        ensures within { IfSome result (λ step. step.1 ≤ most_of_step) }
+        ensures next { result ≡ transition_of self.now.case.now self.now.nurse day state None }
+        ensures next_fits { IfSome result (λ transition. fits_sizes
+            (sizes_of self.now.case.now self.now.nurse) transition.0 ≡ true) }
+        ensures within { IfSome result (λ transition. transition.1 ≤ most_of_transition) }
     {
         let NurseDays { case, nurse, rules } = *self;
         match state.last {
-            Some(_) => step(case, nurse, rules, day, state, None),
-            None => step(case, nurse, rules, day, state, None),
+            Some(_) => transition(case, nurse, rules, day, state, None),
+            None => transition(case, nurse, rules, day, state, None),
         }
     }
 }
 
-/// The points for the runs of shifts, where a shift is worked: that of the last one goes on, or it ends and one of another begins.
+/// The points for the runs of shifts, if a shift is worked: the run of the last one goes on, or it ends and
+/// one of another begins.
 #[inline(always)]
 fn shift_cost(case: &Case, state: State, left: u32, shift: Shift) -> u32
     requires last { IfSome state.last (λ s. s.0 < shift_count case.now) }

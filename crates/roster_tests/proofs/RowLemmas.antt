@@ -46,7 +46,7 @@ forbidden_by c n row day s shift within is shift_is =
     let own : shift ≡ shift_on (days_of row) day = shift_is ∙ sym (get_or-map shift_of row day Off) in
     λ i. forbids c.successions (last i) (own i)
 
--- one day more keeps them
+-- one more day keeps them
 pub kept_more : (p : ℕ → Bool) (day : ℕ) → ((d : ℕ) → d < day → p d ≡ false) → (p day ≡ true → ⊥) → (d : ℕ) → d < day + 1 → p d ≡ false
 kept_more p day so_far own d below = go (cases_eq d day)
   where

@@ -1,15 +1,15 @@
-//! The best rows of nurses, and what the search for them takes.
+//! The best rows of nurses, and how many extensions the search for them makes.
 
 use crate::held_tests::put;
 use crate::instances::read;
 use crate::texts::changed;
-use roster_best::{Workspace, best_row, most_steps};
+use roster_best::{Workspace, best_row, most_search_extensions};
 use roster_case::{Choice, Held, Shift, Skill};
 use roster_state::Meter;
 use std::alloc::Global;
 use std::test::Fail;
 
-/// The instance mini with other lines, held, and what a search in it writes into and counts on.
+/// The instance mini with other lines, held, with the workspace and the meter of a search in it.
 pub(crate) fn ready(
     alloc: Global,
     changes: &[(&str, &str)],
@@ -26,8 +26,8 @@ pub(crate) fn ready(
     }
 }
 
-/// Searches a nurse's best row. It gives the roster's penalty with it, and how many steps were counted; or None where there is no
-/// such nurse, the workspace doesn't fit, or the meter has no room.
+/// Searches a nurse's best row. It gives the roster's penalty with that row, and how many extensions were
+/// counted; or None if there is no such nurse, the workspace doesn't fit, or the meter lacks capacity.
 fn search(
     held: &Held,
     nurse: usize,
@@ -36,7 +36,7 @@ fn search(
 ) -> Option<(u64, u64)> {
     let case = held.case();
     let can_search = nurse < case.nurses() && workspace.fits(case);
-    if !can_search || meter.room() < most_steps(case, nurse) {
+    if !can_search || meter.room() < most_search_extensions(case, nurse) {
         return None;
     }
     let before = meter.count();
@@ -44,7 +44,8 @@ fn search(
     Some((best.total, meter.count() - before))
 }
 
-/// A row of a week in which the nurse works with the first skill: for each day `E` for Early, `N` for Night, `-` for off.
+/// A row of a week in which the nurse works with the first skill: for each day `E` for Early, `N` for Night,
+/// `-` for off.
 pub(crate) fn row_of(week: &[u8; 7]) -> [Choice; 7] {
     let mut row = [Choice::Off; 7];
     for day in 0..7_usize {
@@ -70,7 +71,7 @@ fn best_rows(rt: HostRuntime) -> Result<(), Fail> {
     let head = "Early Nurse (0,1) (0,1) (0,1) (0,1) (0,1) (0,1) (0,1)\n\
         Early Head (0,1) (0,1) (0,1) (0,1) (0,1) (0,1) (0,1)";
     let rows: [(&[(&str, &str)], usize, u64, &[u8; 7]); 3] = [
-        // Bob alone can work the night that is needed.
+        // Only Bob can work the night that is needed.
         (
             &[
                 (REQUIREMENT, night),
@@ -80,9 +81,9 @@ fn best_rows(rt: HostRuntime) -> Result<(), Fail> {
             210,
             b"EEEN-EE",
         ),
-        // The present row is as dear, and comes later in the order.
+        // The present row costs the same, and comes later in the order.
         (&[(NO_LINES, as_dear)], 0, 180, b"E-EEEEE"),
-        // With both skills each row is as dear, and the first skill of the scenario comes first.
+        // With both skills each row costs the same, and the first skill of the scenario comes first.
         (
             &[
                 ("SKILLS = 1\nNurse", "SKILLS = 2\nNurse\nHead"),

@@ -1,10 +1,10 @@
-//! One day more from blocks of states, beside one day more from each of their states.
+//! The extension of blocks of states by one day, compared with the extension of each of their states.
 
 ghost use Rattle.std.specs.Prelude.{◌≡◌, ◌+◌, ◌<◌, ◌≤◌, true, IfSome};
 ghost use Rattle.roster_instance.specs.Meaning.{day_count, nurse_count, shift_count};
 ghost use Rattle.roster_rules.specs.Weights.{assignment_weight};
 ghost use Rattle.roster_state.specs.Codes.{fits_sizes, sizes_of};
-ghost use Rattle.roster_state.specs.Room.{most_of_step};
+ghost use Rattle.roster_state.specs.MostCosts.{most_of_transition};
 
 use crate::instances::read;
 use crate::texts::changed;
@@ -13,10 +13,10 @@ use roster_state::{Block, BlockStep, Meter, Ranges, State, extend, extend_block}
 use std::cmp::min;
 use std::test::Fail;
 
-/// The number of the state to which a place goes by a step, and what that costs.
-fn place_step(ranges: &Ranges, step: &BlockStep, place: u32) -> (u32, u32)
+/// The code of the state to which a block's transition takes the state at this place, and what that costs.
+fn place_transition(ranges: &Ranges, step: &BlockStep, place: u32) -> (u32, u32)
     requires fits { fits_sizes ranges.now step.now.next ≡ true }
-    requires within { step.now.cost + assignment_weight ≤ most_of_step }
+    requires within { step.now.cost + assignment_weight ≤ most_of_transition }
     requires place { place < ranges.now.assignments }
 {
     let _ = ranges.product();
@@ -30,8 +30,8 @@ fn place_step(ranges: &Ranges, step: &BlockStep, place: u32) -> (u32, u32)
     (step.next.first(ranges) + after, step.cost + more)
 }
 
-/// What `extend` gives from a place of a block, as the number of the state and the cost.
-fn plain_step(
+/// What `extend` gives for the state of this code: the code of the next state, and the cost.
+fn plain_transition(
     case: &Case,
     nurse: usize,
     day: u16,
@@ -52,7 +52,8 @@ fn plain_step(
     Some((next.code(&ranges), cost))
 }
 
-/// Whether `extend` takes the state of each place where the place goes by this step, at the same cost.
+/// Whether `extend` takes the state at each place of a block to where the block's transition takes it, at the
+/// same cost.
 fn places_agree(
     case: &Case,
     nurse: usize,
@@ -67,21 +68,21 @@ fn places_agree(
     requires shift { IfSome shift (λ s. s.0 < shift_count case.now) }
     requires fits { fits_sizes (sizes_of case.now nurse) block.now ≡ true }
     requires next_fits { fits_sizes (sizes_of case.now nurse) step.now.next ≡ true }
-    requires within { step.now.cost + assignment_weight ≤ most_of_step }
+    requires within { step.now.cost + assignment_weight ≤ most_of_transition }
 {
     let ranges = Ranges::of(case, nurse);
     let _ = ranges.product();
     let first = block.first(&ranges);
     for place in 0..block.places(&ranges) {
-        let plain = plain_step(case, nurse, day, first + place, shift, meter);
-        if plain != Some(place_step(&ranges, step, place)) {
+        let plain = plain_transition(case, nurse, day, first + place, shift, meter);
+        if plain != Some(place_transition(&ranges, step, place)) {
             return false;
         }
     }
     true
 }
 
-/// Whether `extend` takes the state of no place of a block.
+/// Whether `extend` refuses the state at each place of a block.
 fn none_goes(
     case: &Case,
     nurse: usize,
@@ -100,7 +101,7 @@ fn none_goes(
     let first = block.first(&ranges);
     for place in 0..block.places(&ranges) {
         let counted = meter.count();
-        let plain = plain_step(case, nurse, day, first + place, shift, meter);
+        let plain = plain_transition(case, nurse, day, first + place, shift, meter);
         if plain.is_some() || meter.count() == counted {
             return false;
         }
@@ -138,7 +139,7 @@ fn agrees(
     }
 }
 
-/// Whether a block goes on a Friday, a Saturday and a Sunday, with each choice, where its states go.
+/// Whether a block goes where its states go on a Friday, a Saturday and a Sunday, with each choice.
 fn days_agree(case: &Case, nurse: usize, block: &Block, meter: &mut Meter) -> bool
     requires nurse { nurse < nurse_count case.now }
     requires fits { fits_sizes (sizes_of case.now nurse) block.now ≡ true }
@@ -157,8 +158,9 @@ fn days_agree(case: &Case, nurse: usize, block: &Block, meter: &mut Meter) -> bo
     true
 }
 
-/// Whether blocks of a nurse, with so many places each, go where their states go: each fifth, so that each last shift, each length
-/// of a run and each number of weekends is among them.
+/// Whether the blocks of a nurse have this number of places each, and go where their states go. It tries
+/// every fifth block, so that each last shift, each length of a run and each number of weekends is among
+/// them.
 fn blocks_agree(case: &Case, nurse: usize, places: u32, meter: &mut Meter) -> bool
     requires nurse { nurse < nurse_count case.now }
 {

@@ -23,7 +23,7 @@ fn held(alloc: Global, source: &[u8]) -> Result<Held, Fail> {
 
 // ---- what a nurse may do
 
-/// Whether these are the offers of a nurse on a day, where the days before week `from` are frozen.
+/// Whether these are the offers of a nurse on a day, if the days before week `from` are frozen.
 fn offers_are(held: &Held, nurse: usize, day: u16, from: u16, expected: &[Offer]) -> bool {
     nurse < held.case().nurses()
         && day < held.case().days()
@@ -106,8 +106,8 @@ fn offers_with_wishes(rt: HostRuntime) -> Result<(), Fail> {
 
 // ---- rows replaced
 
-/// A row of the instance big that is the same each week: for each weekday a digit, the number of a shift that is worked with this
-/// skill, or `-` for a day off.
+/// A row of the instance big that is the same in each week: for each weekday a digit, the number of a shift
+/// that is worked with this skill, or `-` for a day off.
 fn row_of(week: &[u8; 7], skill: u8) -> [Choice; 56] {
     let mut row = [Choice::Off; 56];
     for day in 0..56_usize {
@@ -119,7 +119,7 @@ fn row_of(week: &[u8; 7], skill: u8) -> [Choice; 56] {
     row
 }
 
-/// Puts a row in the place of a nurse's where the roster keeps the hard rules with it, and says whether it does.
+/// Replaces a nurse's row if the roster keeps the hard rules with the new one, and says whether it does.
 pub(crate) fn put(held: &mut Held, nurse: usize, row: &[Choice]) -> bool
     requires { nurse < nurse_count held.old.case }
     ensures { held.new.case ≡ held.old.case }
@@ -131,7 +131,7 @@ pub(crate) fn put(held: &mut Held, nurse: usize, row: &[Choice]) -> bool
     keeps
 }
 
-/// Whether what is held of the others of a nurse is what a plain count says.
+/// Whether the cover that is held for the others of a nurse agrees with a plain count.
 fn others_agree(held: &Held, nurse: usize) -> bool
     requires { nurse < nurse_count held.now.case }
 {
@@ -151,7 +151,7 @@ fn others_agree(held: &Held, nurse: usize) -> bool
     true
 }
 
-/// Whether what is held of the penalty is what the rules say, and so is what is left of it without a nurse and the staffing.
+/// Whether the held penalty, what remains of it without a nurse, and the held cover agree with the rules.
 fn costs_agree(held: &Held, nurse: usize) -> bool
     requires { nurse < nurse_count held.now.case }
 {
@@ -171,8 +171,8 @@ fn counts_after_each_replacement(rt: HostRuntime) -> Result<(), Fail> {
     let text = big(alloc)?;
     let mut held = held(alloc, text.as_bytes())?;
     assert_eq!(rt; held.total(), 94380);
-    // A nurse, a week with its skill, and whether the hard rules are kept: S3 forbids S0 and S1 on the next day, and nurse n
-    // has the skill that is left of n by 4.
+    // A nurse, a week with its skill, and whether the hard rules are kept: S3 forbids S0 and S1 on the next
+    // day, and nurse n has the skill n mod 4.
     let replacements = [
         (0, b"00000--", 0, true),
         (5, b"33330--", 1, false),

@@ -8,7 +8,7 @@ use roster_text::{parse_bundle, tokens};
 use std::alloc::{AllocError, Global};
 use std::test::Fail;
 
-// The instance big as far as its nurses.
+// The instance big up to its nurses.
 const BIG_SCENARIO: &str = "SCENARIO = big
 
 WEEKS = 8
@@ -37,8 +37,8 @@ Full (30,44) (3,5) (2,3) 4 1
 NURSES = 30
 ";
 
-/// The instance big: eight weeks, thirty nurses with one of four skills each, and on each day one nurse wanted for each shift
-/// with each skill. All solutions are empty.
+/// The instance big: eight weeks, thirty nurses with one of four skills each, and in each slot an optimum of
+/// one nurse. All solutions are empty.
 pub(crate) fn big(alloc: Global) -> Result<String, AllocError> {
     let mut text = String::from_str(alloc, BIG_SCENARIO)?;
     for nurse in 0..30_u8 {

@@ -1,11 +1,11 @@
-//! Stretches of labels of each length, lowered by vectors and by a plain loop.
+//! Strips of labels of each length, lowered by vectors and by a plain loop.
 
 ghost use Rattle.std.specs.Prelude.{◌≡◌, ◌+◌, ◌<◌, ◌≤◌, ℕ, length, slice_index_or};
 
 use roster_lanes::{lower_all, lower16};
 
-/// The greatest length: four vectors, and six places that fill none.
-const PLACES: usize = 70;
+/// The greatest length: four vectors, and six labels that don't fill one.
+const MOST_LABELS: usize = 70;
 
 /// Sets each label to one of five, in turn.
 fn fill_labels(labels: &mut [u32], from: usize) {
@@ -20,7 +20,8 @@ fn fill_labels(labels: &mut [u32], from: usize) {
     }
 }
 
-/// Sets each other label to one of seven, in turn. With 1000 more they are smaller than, equal to or larger than labels.
+/// Sets each candidate to one of seven, in turn. With 1000 more they are smaller than, equal to or larger
+/// than labels.
 fn fill_others(others: &mut [u32], from: usize)
     ensures { (i : ℕ) → i < length others.old → slice_index_or others.new i 0 + 1000 ≤ 4294967295 }
 {
@@ -37,7 +38,7 @@ fn fill_others(others: &mut [u32], from: usize)
     }
 }
 
-/// The same as `lower_all`, one place after the other.
+/// The same as `lower_all`, one label after the other.
 fn lower_each(labels: &mut [u32], pointers: &mut [u8], others: &[u32], more: u32, pointer: u8)
     requires pointers { length pointers.old ≡ length labels.old }
     requires others { length others.now ≡ length labels.old }
@@ -53,14 +54,15 @@ fn lower_each(labels: &mut [u32], pointers: &mut [u8], others: &[u32], more: u32
     }
 }
 
-/// Whether so many places of 70, lowered three times, become the same by both, and the places after them stay.
+/// Whether the first `count` labels of 70, lowered three times, become the same both ways, and those after
+/// them stay.
 fn agrees(count: usize, from: usize) -> bool
     requires { count ≤ 70 }
 {
-    let (mut labels, mut pointers) = ([0; PLACES], [200; PLACES]);
+    let (mut labels, mut pointers) = ([0; MOST_LABELS], [200; MOST_LABELS]);
     fill_labels(&mut labels, from);
     let (mut by_each, mut by_each_pointers) = (labels, pointers);
-    let mut others = [0; PLACES];
+    let mut others = [0; MOST_LABELS];
     for pointer in 1..4_u8 {
         let more = if pointer == 2 { 0 } else { 1000 };
         fill_others(&mut others, from.wrapping_add(pointer as usize));
@@ -85,7 +87,7 @@ fn agrees(count: usize, from: usize) -> bool
 
 #[test]
 fn lengths_up_to_seventy(rt: HostRuntime) {
-    for count in 0..=PLACES {
+    for count in 0..=MOST_LABELS {
         for from in 0..7 {
             assert!(rt; agrees(count, from), "{count} places");
         }
@@ -93,7 +95,7 @@ fn lengths_up_to_seventy(rt: HostRuntime) {
 }
 
 #[test]
-fn bits_of_sixteen_places(rt: HostRuntime) {
+fn bits_of_sixteen_labels(rt: HostRuntime) {
     let mut labels = [
         5,
         5,

@@ -1,4 +1,5 @@
-//! Tests of public calls below the command line, over stand-in devices, and the texts that all tests of the program share.
+//! Tests of public calls below the command line, over stand-in devices, and the texts that all tests of the
+//! program share.
 #![tactic(auto)]
 
 #[cfg(test)]

@@ -1,5 +1,5 @@
-//! The libraries called one after the other. What each asks for, the one before it has promised, so that a caller has
-//! nothing to prove.
+//! The libraries, called one after the other. What each call requires has been promised by one before it, so
+//! a caller has nothing to prove.
 
 use crate::texts::MINI;
 use roster_case::{Case, Roster, costs};

@@ -5,18 +5,18 @@ ghost use Rattle.roster_bundle.specs.Limits.{greatest_u64};
 ghost use Rattle.roster_rules.specs.AllowedRows.{best_row};
 ghost use Rattle.roster_laws.specs.FrozenDays.{FrozenDaysStay};
 ghost use Rattle.roster_laws.specs.Greatest.{extensions_in};
-ghost use Rattle.roster_offers.specs.Workspaces.{SameRoom, fits_space};
-ghost use Rattle.roster_row.specs.Known.{IsKnown};
+ghost use Rattle.roster_offers.specs.Workspaces.{SameCapacity, fits_space};
+ghost use Rattle.roster_row.specs.Recalled.{RecallsSearches};
 ghost use Rattle.roster_rounds.specs.RunLogs.{LogStops, Ran};
 
 use crate::best_tests::{ready, row_of};
 use crate::texts::{RUN_LOG, fill};
-use roster_best::{LastSearches, Workspace, most_steps};
+use roster_best::{LastSearches, Workspace, most_search_extensions};
 use roster_case::Held;
 use roster_devices::{AtEnd, CallCounter, ShortWriter};
-use roster_partial::PartialTables;
+use roster_partial::RowSearcher;
 use roster_rounds::{
-    LogFault, Outcome, RunSpace, Step, improve, most_extensions, step, step_unless_known,
+    LogFault, Outcome, RunSpace, Step, improve, most_extensions, step, step_or_skip,
 };
 use roster_state::Meter;
 use roster_text::Watch;
@@ -24,7 +24,8 @@ use std::alloc::Global;
 use std::io::Write;
 use std::test::Fail;
 
-/// A run with a workspace. What `improve` says for whatever makes its steps is this for a workspace, word for word.
+/// A run with a workspace. It has the contract of `improve`, stated for a workspace instead of for whatever
+/// makes the steps.
 fn improve_in<W: Write>(
     held: &mut Held,
     rounds: u16,
@@ -42,7 +43,7 @@ fn improve_in<W: Write>(
         rounds held.old.roster held.new.roster log.old log.new) }
     ensures frozen { FrozenDaysStay held.old.case from held.old.roster held.new.roster }
     ensures counted { meter.new ≤ meter.old + extensions_in held.old.case rounds }
-    ensures same_room { SameRoom workspace.old workspace.new }
+    ensures same_capacity { SameCapacity workspace.old workspace.new }
     ensures fits { fits_space held.old.case workspace.new ≡ true }
 {
     improve(held, rounds, from, workspace, meter, log)
@@ -52,7 +53,7 @@ fn improve_in<W: Write>(
 fn steps_and_a_run(rt: HostRuntime) -> Result<(), Fail> {
     let (mut held, mut workspace, mut meter) = ready(rt.alloc(), &[])?;
     let can_step = workspace.fits(held.case()) && held.case().nurses() == 2;
-    if !can_step || meter.room() < most_steps(held.case(), 0) {
+    if !can_step || meter.room() < most_search_extensions(held.case(), 0) {
         return Err(Fail::new("no room"));
     }
     let frozen = step(&mut held, 0, 1, &mut workspace, &mut meter);
@@ -62,7 +63,7 @@ fn steps_and_a_run(rt: HostRuntime) -> Result<(), Fail> {
         changed: false,
     };
     assert!(rt; frozen == wanted);
-    if meter.room() < most_steps(held.case(), 0) {
+    if meter.room() < most_search_extensions(held.case(), 0) {
         return Err(Fail::new("no room for a step more"));
     }
     let first = step(&mut held, 0, 0, &mut workspace, &mut meter);
@@ -88,7 +89,7 @@ fn steps_and_a_run(rt: HostRuntime) -> Result<(), Fail> {
     Ok(())
 }
 
-/// What a run over mini leaves: the roster, what it counted, and how it ended.
+/// What a run over mini leaves: the roster, the count of the meter, and how the run ended.
 type Left = (Held, Meter, Result<Outcome, LogFault>);
 
 type Log<'a> = Watch<ShortWriter<'a>>;
@@ -103,10 +104,10 @@ fn run(alloc: Global, log: &mut Log<'_>) -> Result<Left, Fail> {
     Ok((held, meter, ended))
 }
 
-/// A run over mini that searches only where the nurse's last search doesn't tell enough.
+/// A run over mini that skips a search if what the nurse's last search found is still known to hold.
 fn run_unless_known(alloc: Global, log: &mut Log<'_>) -> Result<Left, Fail> {
     let (mut held, _, mut meter) = ready(alloc, &[])?;
-    let Ok(mut space) = RunSpace::<PartialTables>::for_case(alloc, held.case()) else {
+    let Ok(mut space) = RunSpace::<RowSearcher>::for_case(alloc, held.case()) else {
         return Err(Fail::new("no space"));
     };
     if meter.room() < most_extensions(held.case(), 100) {
@@ -116,8 +117,8 @@ fn run_unless_known(alloc: Global, log: &mut Log<'_>) -> Result<Left, Fail> {
     Ok((held, meter, ended))
 }
 
-/// How many writes the log of a run over mini takes: each word, number and blank and each line's end go out by one, which makes 4 for a
-/// line of one word, 6 for a nurse's and 5 for a round's.
+/// How many writes the log of a run over mini takes. Each word, number, blank and line end is a write of its
+/// own: 4 for a line of one word, 6 for a nurse's line and 5 for a round's.
 const RUN_WRITES: u64 = 4 + 6 + 6 + 5 + 6 + 5 + 5 + 4;
 
 #[test]
@@ -135,8 +136,8 @@ fn writes_of_a_log(rt: HostRuntime) -> Result<(), Fail> {
     Ok(())
 }
 
-/// After how many bytes a log may fail (the first and the last number), and the total and the weeks of Ann and Bob that a run
-/// over mini leaves then.
+/// After how many bytes a log may fail (the first and the last number), and the total and the weeks of Ann
+/// and Bob that a run over mini leaves then.
 type AtFault = (usize, usize, u64, &'static [u8; 7], &'static [u8; 7]);
 
 const AT_FAULTS: [AtFault; 4] = [
@@ -154,8 +155,8 @@ const AT_FAULTS: [AtFault; 4] = [
 fn rosters_after_a_log_that_fails(rt: HostRuntime) -> Result<(), Fail> {
     for (first, last, total, ann, bob) in AT_FAULTS {
         for sent in first..last + 1 {
-            let mut log_room = [0; 78];
-            let writer = ShortWriter::new(&mut log_room[..sent.min(78)], AtEnd::Fail);
+            let mut log_buffer = [0; 78];
+            let writer = ShortWriter::new(&mut log_buffer[..sent.min(78)], AtEnd::Fail);
             let mut log = Watch::new(writer);
             let (held, meter, ended) = run(rt.alloc(), &mut log)?;
             assert!(rt; ended == Err(LogFault::LogFailed { sent }), "{sent}");
@@ -173,11 +174,11 @@ fn rosters_after_a_log_that_fails(rt: HostRuntime) -> Result<(), Fail> {
 #[test]
 fn the_same_run_with_fewer_searches(rt: HostRuntime) -> Result<(), Fail> {
     for sent in 0..81_usize {
-        let mut log_room = [0; 81];
-        let mut log = Watch::new(ShortWriter::new(&mut log_room[..sent], AtEnd::Fail));
+        let mut log_buffer = [0; 81];
+        let mut log = Watch::new(ShortWriter::new(&mut log_buffer[..sent], AtEnd::Fail));
         let (held, meter, ended) = run(rt.alloc(), &mut log)?;
-        let mut other_room = [0; 81];
-        let mut other_log = Watch::new(ShortWriter::new(&mut other_room[..sent], AtEnd::Fail));
+        let mut other_buffer = [0; 81];
+        let mut other_log = Watch::new(ShortWriter::new(&mut other_buffer[..sent], AtEnd::Fail));
         let (other, other_meter, other_ended) = run_unless_known(rt.alloc(), &mut other_log)?;
         assert!(rt; other_ended == ended, "{sent}");
         assert!(rt;
@@ -187,13 +188,13 @@ fn the_same_run_with_fewer_searches(rt: HostRuntime) -> Result<(), Fail> {
         assert!(rt; other.roster().row(0) == held.roster().row(0), "{sent}");
         assert!(rt; other.roster().row(1) == held.roster().row(1), "{sent}");
         assert!(rt; other_meter.count() <= meter.count(), "{sent}");
-        // By the end at least one search was left out.
+        // By the end at least one search was skipped.
         assert!(rt; sent < 78 || other_meter.count() < meter.count(), "{sent}");
     }
     Ok(())
 }
 
-/// Whether a nurse's step takes a search; none where it changes the roster, or cannot be made.
+/// Whether a nurse's step takes a search, or None if the step changes the roster or can't be made.
 fn takes_search(
     held: &mut Held,
     nurse: usize,
@@ -201,15 +202,15 @@ fn takes_search(
     last: &mut LastSearches,
     meter: &mut Meter,
 ) -> Option<bool>
-    requires { IsKnown held.old.case last.old }
-    ensures { IsKnown held.new.case last.new }
+    requires { RecallsSearches held.old.case last.old }
+    ensures { RecallsSearches held.new.case last.new }
 {
     let can_search = nurse < held.case().nurses() && workspace.fits(held.case());
-    if !can_search || meter.room() < most_steps(held.case(), nurse) {
+    if !can_search || meter.room() < most_search_extensions(held.case(), nurse) {
         return None;
     }
     let before = meter.count();
-    let step = step_unless_known(held, nurse, 0, workspace, last, meter);
+    let step = step_or_skip(held, nurse, 0, workspace, last, meter);
     if step.changed {
         return None;
     }
@@ -217,18 +218,19 @@ fn takes_search(
 }
 
 #[test]
-fn nurses_who_are_known_take_no_search(rt: HostRuntime) -> Result<(), Fail> {
+fn known_nurses_take_no_search(rt: HostRuntime) -> Result<(), Fail> {
     let alloc = rt.alloc();
-    let mut log_room = [0; 80];
-    let mut log = Watch::new(ShortWriter::new(&mut log_room, AtEnd::Fail));
+    let mut log_buffer = [0; 80];
+    let mut log = Watch::new(ShortWriter::new(&mut log_buffer, AtEnd::Fail));
     let (mut held, mut meter, _) = run(alloc, &mut log)?;
     let Ok(mut workspace) = Workspace::for_case(alloc, held.case()) else {
         return Err(Fail::new("no workspace"));
     };
     let Ok(mut last) = LastSearches::for_case(alloc, held.case()) else {
-        return Err(Fail::new("no room for what searches tell"));
+        return Err(Fail::new("no memory for the last searches"));
     };
-    // The first search for a nurse tells that no row is cheaper, and as long as no row changes, that is known.
+    // The first search for a nurse finds that no row is cheaper, and that stays known as long as no row
+    // changes.
     let ann = takes_search(&mut held, 0, &mut workspace, &mut last, &mut meter);
     let bob = takes_search(&mut held, 1, &mut workspace, &mut last, &mut meter);
     assert!(rt; ann == Some(true) && bob == Some(true));

@@ -11,9 +11,9 @@ ghost use Rattle.roster_tests.specs.Rows.{KeepsSuccessions, days_tried};
 use roster_case::{Case, Choice};
 use roster_state::{Meter, end_cost, extend, start};
 
-/// What a row costs its nurse in runs, split weekends, totals and worked weekends, in penalty points: the cost of the start,
-/// of a step for each day and of the end. None exactly where a shift forbids the next. The meter counts one for each day, up to
-/// the first forbidden one and that one included.
+/// What a row costs its nurse in runs, split weekends, totals and worked weekends, in penalty points: the
+/// cost of the start, of a transition on each day and of the end. None exactly if a shift forbids the next.
+/// The meter counts one extension for each day, up to the first forbidden one and with it.
 pub fn row_cost(case: &Case, nurse: usize, row: &[Choice], meter: &mut Meter) -> Option<u64>
     requires nurse { nurse < nurse_count case.now }
     requires row { is_row_of case.now row.now ≡ true }

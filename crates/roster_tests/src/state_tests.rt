@@ -11,7 +11,8 @@ use roster_state::{Meter, Ranges, State};
 use std::alloc::Global;
 use std::test::Fail;
 
-/// What the rows cost their nurses, from day to day, and how many steps that took. None where a shift forbids the next.
+/// What the rows cost their nurses, from day to day, and how many extensions that took. None if a shift
+/// forbids the next.
 fn rows_cost(case: &mut Case, roster: &Roster) -> Option<(u64, u64)>
     requires { fits_case case.old roster.now ≡ true }
     ensures { case.new ≡ case.old }
@@ -28,8 +29,8 @@ fn rows_cost(case: &mut Case, roster: &Roster) -> Option<(u64, u64)>
     Some((sum, steps))
 }
 
-/// What the rows of mini with other lines cost their nurses by the rules. None where it is something else from day to
-/// day, or there are more or fewer steps than nurses and days.
+/// What the rows of mini with other lines cost their nurses by the rules. None if the cost from day to day
+/// differs, or if the number of extensions isn't that of nurses times days.
 fn own_cost(alloc: Global, changes: &[(&str, &str)]) -> Result<Option<u64>, Fail> {
     let text = changed(alloc, changes)?;
     let (mut case, roster) = read(alloc, text.as_bytes())?;

@@ -46,10 +46,10 @@ SOLUTION
 ASSIGNMENTS = 0
 ";
 
-/// What `show` writes of it.
+/// What `show` writes for it.
 pub const SHOWN: &str = "SOLUTION\n0 mini\n\nASSIGNMENTS = 0\n";
 
-/// The instance mini with other lines, each of which stands there once.
+/// The instance mini with other lines in the place of some, each of which occurs in it once.
 pub fn changed(alloc: Global, changes: &[(&str, &str)]) -> Result<String, AllocError> {
     let mut text = String::from_str(alloc, MINI)?;
     for (line, other) in changes {
@@ -62,7 +62,7 @@ pub fn changed(alloc: Global, changes: &[(&str, &str)]) -> Result<String, AllocE
 pub const RUN_LOG: &str =
     "start 470\n1 Ann 180\n1 Bob 20\nround 1 20\n2 Ann 0\nround 2 0\nround 3 0\nsettled 0\n";
 
-/// Whether these are the bytes of a text, as many of them as there is room for.
+/// Whether these are the bytes of a text, or its first `room` bytes if it is longer.
 pub fn fill(written: &[u8], text: &str, room: usize) -> bool {
     text.as_bytes().starts_with(written) && written.len() == text.len().min(room)
 }

@@ -1,4 +1,4 @@
--- The tokens of a text that is made of words and marks with separators after each.
+-- The tokens of a text that consists of words and marks, each followed by separators.
 use Rattle.std.proofs.Common.{◌≡◌, ◌⊎◌, inl, inr, ℕ, ◌+◌, ◌-◌, ◌<◌, ◌≤◌, Bool, true, List, [], ◌∷◌, ◌++◌, length, map, get_or, take, drop, refl, sym, subst, ◌∙◌, ap, arith, ⊎_elim, append_assoc, length-append, length-drop}
 use Rattle.std.proofs.lemmas.Bool.{and_parts, ltb-true}
 use Rattle.std.proofs.lemmas.List.{get_or-drop, get_or_append_left, drop-drop, drop_at, take_at}
@@ -42,7 +42,7 @@ bytes ps = flat_map (λ p. p.text ++ p.gap) ps
 abbrev pub texts : List Chunk → List (List ℕ)
 texts ps = map (λ p. p.text) ps
 
--- ---- what stands from a place on
+-- ---- the text from a position on
 
 pub record Stands (text : List ℕ) (i : ℕ) (rest : List ℕ) : Type 0 where
   pub inside : i ≤ length text
@@ -59,16 +59,16 @@ stands_after text i front rest s = record {
 
 byte_at : (text : List ℕ) (i : ℕ) (front rest : List ℕ) → Stands text i (front ++ rest) → (k : ℕ) → i ≤ k → k < i + length front → get_or text k 0 ≡ get_or front (k - i) 0
 byte_at text i front rest s k low high =
-    let place : i + (k - i) ≡ k = omega arith in
-    ap (λ j. get_or text j 0) (sym place) ∙ sym (get_or-drop i text (k - i) 0) ∙ ap (λ l. get_or l (k - i) 0) s.is
+    let position : i + (k - i) ≡ k = omega arith in
+    ap (λ j. get_or text j 0) (sym position) ∙ sym (get_or-drop i text (k - i) 0) ∙ ap (λ l. get_or l (k - i) 0) s.is
     ∙ get_or_append_left front rest 0 (k - i) (omega arith)
 
--- each byte of a front passes
+-- each byte of a prefix passes the test
 passes : (p : ℕ → Bool) (text : List ℕ) (i : ℕ) (front rest : List ℕ) → list_all p front ≡ true → Stands text i (front ++ rest) → (k : ℕ) → i ≤ k → k < i + length front → p (get_or text k 0) ≡ true
 passes p text i front rest all s k low high =
     ap p (byte_at text i front rest s k low high) ∙ AllPass-from_list_all p front all (k - i) 0 (omega arith)
 
--- ---- over separators
+-- ---- separators
 
 gap_over : (text : List ℕ) (i : ℕ) (gap rest : List ℕ) → IsGap gap → Stands text i (gap ++ rest) → tokens_from text i ≡ tokens_from text (i + length gap)
 gap_over text i gap rest g s =
@@ -81,7 +81,7 @@ gap_between text i gap rest g s =
     IsBetweenTokens-after text (i + length gap - 1) (i + length gap) (omega arith)
     (is_word_byte-separator _ (passes is_separator text i gap rest g.separators s (i + length gap - 1) (omega arith) (omega arith)))
 
--- ---- over a word
+-- ---- a word
 
 -- a word goes on up to the separators after it
 word_len : (w gap rest : List ℕ) → list_all is_word_byte w ≡ true → IsGap gap → prefix_len is_word_byte (w ++ (gap ++ rest)) ≡ length w
@@ -95,7 +95,7 @@ word_front : (w : List ℕ) → IsTrue (is_word w) → (0 < length w) × (list_a
 unfolding is_word
 word_front w word = let parts = and_parts _ _ word in (ltb-true 0 (length w) parts.0, parts.1)
 
--- the first token from a place on, and what is after it
+-- the first token from a position on, and what is after it
 record Reads (text : List ℕ) (i j : ℕ) (bytes : List ℕ) : Type 0 where
   end : ℕ
   first : tokens_from text i ≡ record { start = i; end = end; line = line_at text i } ∷ tokens_from text j
@@ -124,8 +124,8 @@ word_read text i w gap rest word g s between =
 mark_read : (text : List ℕ) (i b : ℕ) (gap rest : List ℕ) → IsTrue (is_mark b) → IsGap gap → Stands text i ((b ∷ []) ++ (gap ++ rest)) → Reads text i (i + length (b ∷ []) + length gap) (b ∷ [])
 mark_read text i b gap rest mark g s =
     let inside : i < length text = omega (arith, stands_length text i ((b ∷ []) ++ (gap ++ rest)) s) in
-    let place : i - i ≡ 0 = omega arith in
-    let here : get_or text i 0 ≡ b = byte_at text i (b ∷ []) (gap ++ rest) s i (omega arith) (omega arith) ∙ ap (λ k. get_or (b ∷ []) k 0) place in
+    let position : i - i ≡ 0 = omega arith in
+    let here : get_or text i 0 ≡ b = byte_at text i (b ∷ []) (gap ++ rest) s i (omega arith) (omega arith) ∙ ap (λ k. get_or (b ∷ []) k 0) position in
     record {
       end = i + 1;
       first = tokens_from-mark text i inside (ap is_mark here ∙ mark)

@@ -55,7 +55,7 @@ never x d r e f = let both : ok_of x ≡ err_of d = sym e ∙ f in cc
 regrouped : (front more : List Seen) (t : Seen) → (front ++ t ∷ []) ++ more ≡ front ++ t ∷ more
 regrouped front more t = append_assoc front (t ∷ []) more
 
--- a list that goes on from here is read as far as its bundle
+-- tokens that some more tokens complete to a bundle are read, with these, as that bundle
 goes_on_read : (front : List Seen) (t : Seen) (g : GoesOn (front ++ t ∷ [])) → bundle_at (front ++ t ∷ g.more) ≡ Ok (g.value, [])
 goes_on_read front t g = ap bundle_at (sym (regrouped front g.more t)) ∙ read_all_of ((front ++ t ∷ []) ++ g.more) g.value g.spells
 
@@ -113,13 +113,13 @@ stopped end ts r left e =
       is = fault_is end s.next s.due r left s.is;
     }
 
--- ---- the three clauses
+-- ---- the three clauses of `parse_bundle`
 
 outcome : (r : Read Bundle) → ((x : Bundle × List Seen) × (r ≡ Ok x)) ⊎ ((d : Refusal × List Seen) × (r ≡ Err d))
 outcome (Ok x) = inl (x, refl)
 outcome (Err d) = inr (d, refl)
 
--- what the reader of all tokens answers
+-- what reading all tokens gives
 pub data Answer (end : ℕ) (ts : List Seen) : Type 0 where
   read : (b : Bundle) → Spells ts b → whole_of end (bundle_at ts) ≡ Ok b → Answer end ts
   refused : (f : TextFault) → IsFirstFault end ts f → whole_of end (bundle_at ts) ≡ Err f → Answer end ts
@@ -150,7 +150,7 @@ fault_result f = Err f
 abbrev bundle_result : Bundle → Result Bundle TextFault
 bundle_result b = Ok b
 
--- the one that is spelled, unless memory ran out
+-- the result is the bundle that is spelled, unless memory ran out
 abbrev pub IsReadAs : Result Bundle TextFault → Bundle → Type 0
 IsReadAs r b = MatchResult r (λ c. c ≡ b) (λ f. f ≡ fault.Memory)
 
@@ -188,7 +188,7 @@ module _ (end : ℕ) (ts : List Seen) (r : Result Bundle TextFault) (given : Giv
       by_answer (read b s e) = subst IsRefused (sym e) tt
       by_answer (refused f i e) = subst IsRefused (sym e) (λ other. i)
 
--- ---- there is one first fault
+-- ---- there is only one first fault
 
 -- two ways to cut a list
 data Cuts (a b c d : List Seen) : Type 0 where
@@ -221,11 +221,11 @@ not_before : (a b : List Seen) (t : Seen) (rest : List Seen) → b ≡ t ∷ res
 not_before a [] t rest e stops g = cc e
 not_before a (u ∷ us) t rest e stops g = let same : t ≡ u = sym cc in stops (subst (λ (v : Seen). GoesOn (a ++ v ∷ [])) same g)
 
--- a front stops at its end where something is due
+-- a list of tokens after which something is due is refused at its end
 due_stops : (front : List Seen) (p : Pattern) (due : List Pattern) → AreDue front (p ∷ due) → bundle_at front ≡ Err (Due (label p), [])
 due_stops front p due d = bundle_reader.ends d.value d.passed due p front d.more (counted (front ++ d.more) d.value d.spells) d.patterns d.front_fits d.more_fits
 
--- where nothing is due the front spells a bundle
+-- if nothing is due after these tokens, they spell a bundle
 none_due : (front : List Seen) → (d : AreDue front []) → bundle_at front ≡ Ok (d.value, [])
 none_due front d =
     let all : bundle d.value ≡ d.passed = d.patterns ∙ append-nil d.passed in
@@ -253,7 +253,7 @@ same_fault end front rest [] (q ∷ others) d e = absurd (never (d.value, []) (D
 same_fault end front rest (p ∷ due) [] d e = absurd (never (e.value, []) (Due (label p), []) (bundle_at front) (none_due front e) (due_stops front p due d))
 same_fault end front rest (p ∷ due) (q ∷ others) d e = by_label end p q due others rest (same_label front p q due others d e)
 
--- the first fault is one
+-- a list of tokens has one first fault
 pub one_fault : (end : ℕ) (ts : List Seen) (f g : TextFault) → IsFirstFault end ts f → IsFirstFault end ts g → f ≡ g
 one_fault end ts f g x y = by_cuts (cuts x.front x.rest y.front y.rest (sym x.split ∙ y.split))
   where
@@ -264,7 +264,7 @@ one_fault end ts f g x y = by_cuts (cuts x.front x.rest y.front y.rest (sym x.sp
     by_cuts (earlier t z rest p q) = absurd (not_before x.front x.rest t rest q x.stops (due_goes_on y.front y.due y.goes_on x.front t z p))
     by_cuts (later t z rest p q) = absurd (not_before y.front y.rest t rest q y.stops (due_goes_on x.front x.due x.goes_on y.front t z p))
 
--- what holds of each bundle that is spelled holds of one that was read
+-- what holds of each spelled bundle holds of one that was read
 pub of_spelled : (P : Bundle → Type 0) (ts : List Seen) (r : Result Bundle TextFault) → ((b : Bundle) → Spells ts b → P b) → IfOk r (Spells ts) → IfOk r P
 of_spelled P ts (Ok b) holds s = holds b s
 of_spelled P ts (Err f) holds s = tt

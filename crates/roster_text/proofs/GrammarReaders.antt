@@ -1,4 +1,4 @@
--- The parts of the four texts, field by field.
+-- The readers of the sections of the four texts, field by field.
 use Rattle.std.proofs.Common.{◌≡◌, ◌<◌, inl, inr, ℕ, zero, suc, true, false, List, [], ◌∷◌, ◌++◌, Option, Some, None, length, Ok, refl, sym, ap, ◌∙◌, append_assoc, codes, arith}
 use Rattle.std.proofs.lemmas.List.{append-nil}
 use Rattle.std.specs.List.{flat_map}
@@ -41,7 +41,7 @@ step {A} {B} {patA} {readA} first {V} get {patB} {k} rest = then every patA read
 word : {B : Type 0} {V : B → Type 0} (due : What) (text : List ℕ) → wants_number due ≡ false → {pat : B → List Pattern} {k : List Seen → Read B} → Reader V pat k → Reader V (λ b. fixed due text ∷ pat b) (λ ts. word_at due text ts >>= λ x. k x.1)
 word {B} {V} due text no_number {pat} {k} r = then_word V due text no_number pat k r
 
--- all fields are read
+-- all fields have been read
 done : {B : Type 0} {V : B → Type 0} (b : B) → V b → ((x : B) → V x → x ≡ b) → Reader V (λ _. []) (λ ts. Ok (b, ts))
 done {B} {V} b valid only = done_reader V b valid only
 
@@ -71,7 +71,7 @@ flag_reader = one_reader (number 1) (value_at 1) (value_one 1)
 placed_reader : (limit : ℕ) → Reader every (λ (n : Number). placed n.token limit n.value ∷ []) (number_at limit)
 placed_reader limit = one_reader (λ (n : Number). placed n.token limit n.value) (number_at limit) (placed_one limit)
 
--- so many of a kind, and then the rest
+-- n items of a kind, and then the rest
 many : {A B : Type 0} {pat : A → List Pattern} {read : List Seen → Read A} → Reader every pat read → (n : ℕ) {V : B → Type 0} (get : B → List A) → ((b : B) → V b → length (get b) ≡ n) → {patB : B → List Pattern} {k : List A → List Seen → Read B} → ((xs : List A) → length xs ≡ n → Reader (λ b. V b × (get b ≡ xs)) patB (k xs))
     → Reader V (λ b. flat_map pat (get b) ++ patB b) (λ ts. times_at read n ts >>= λ x. k x.0 x.1)
 many {A} {B} {pat} {read} item n {V} get valid {patB} {k} rest = then (AreMany n) (flat_map pat) (times_at read n) (times_reader pat read item n) V get valid patB k rest
@@ -228,12 +228,12 @@ nurse_day_reader =
     step day_reader (λ b. b.day) (λ day.
     done (record { nurse = nurse; day = day }) ((tt, refl), refl) (λ b v i. record { nurse = v.0.1 i; day = v.1 i })))
 
--- the part begins with this keyword
+-- the patterns begin with this keyword
 record BeginsWith (k : Keyword) (ps : List Pattern) : Type 0 where
   rest : List Pattern
   is : ps ≡ fixed (what.Keyword k) (keyword_text k) ∷ rest
 
--- the keywords after a week are none that may begin a section of wishes, of absences or of fixed days
+-- the keywords that may follow a week; none of them begins a section of wishes, of absences or of fixed days
 data FollowsWeek : Keyword → Type 0 where
   solutions : FollowsWeek keyword.Solution
   week : FollowsWeek keyword.WeekData
@@ -250,30 +250,30 @@ no_fixed : (k : Keyword) → FollowsWeek k → keyword_text k ≡ keyword_text k
 no_fixed _ solutions e = cc
 no_fixed _ week e = cc
 
--- fixed days, or the part after the week, don't begin as a section with another keyword does
+-- fixed days, and what follows a week, don't begin as a section with another keyword does
 fixed_begin : (k after : Keyword) → (keyword_text keyword.Fixed ≡ keyword_text k → ⊥) → (keyword_text after ≡ keyword_text k → ⊥)
     → (o : Option (Listed NurseDay)) (ps : List Pattern) → BeginsWith after ps → BeginsOther k after (grammar.optional_section keyword.Fixed after grammar.nurse_day o ++ ps)
 fixed_begin k after not_fixed not_after None ps begins = record { text = keyword_text after; rest = begins.rest; is = begins.is; other = not_after }
 fixed_begin k after not_fixed not_after (Some xs) ps begins = record { text = keyword_text keyword.Fixed; rest = _; is = refl; other = not_fixed }
 
--- what follows the wishes doesn't begin as they do: absences, or what follows these
+-- what follows the wishes begins differently: it is the section of absences, or what follows that
 absences_begin : (after : Keyword) → FollowsWeek after → (o : Option (Listed NurseDay)) (ps : List Pattern) → BeginsOther keyword.ShiftOnRequests after ps
     → BeginsOther keyword.ShiftOnRequests after (grammar.optional_section keyword.Absences after grammar.nurse_day o ++ ps)
 absences_begin after is None ps begins = begins
 absences_begin after is (Some xs) ps begins = record { text = keyword_text keyword.Absences; rest = _; is = refl; other = λ e. cc }
 
--- a week, and then a part that begins with the keyword after it
+-- a week, and then a section that begins with the keyword after it
 module _ (after : Keyword) (is : FollowsWeek after) {B : Type 0} (V : B → Type 0) (get : B → WeekData) (patB : B → List Pattern) (k : WeekData → List Seen → Read B)
     (begins : (b : B) → V b → BeginsWith after (patB b)) (rest : (w : WeekData) → Reader (λ b. V b × (get b ≡ w)) patB (k w)) where
-  -- the fields that the reader has read, but for the wishes
+  -- the fields read so far, without the wishes
   abbrev IsAsked : Token → List Requirement → Listed Request → B → Type 0
   IsAsked scenario requirements off b = ((V b × ((get b).scenario ≡ scenario)) × ((get b).requirements ≡ requirements)) × ((get b).off_requests ≡ off)
 
-  -- and these with the wishes
+  -- the same with the wishes
   abbrev IsWished : Token → List Requirement → Listed Request → Option (Listed Request) → B → Type 0
   IsWished scenario requirements off on b = IsAsked scenario requirements off b × ((get b).on_requests ≡ on)
 
-  -- and these with the absences
+  -- the same with the absences
   abbrev IsAway : Token → List Requirement → Listed Request → Option (Listed Request) → Option (Listed NurseDay) → B → Type 0
   IsAway scenario requirements off on away b = IsWished scenario requirements off on b × ((get b).absences ≡ away)
 
@@ -390,7 +390,7 @@ module _ (after : Keyword) (is : FollowsWeek after) {B : Type 0} (V : B → Type
       word (what.Keyword keyword.Requirements) (keyword_text keyword.Requirements) refl (step requirements_reader (λ b. (get b).requirements) (λ requirements.
       step (listed_reader grammar.request request_at request_reader) (λ b. (get b).off_requests) (λ off. wishes scenario requirements off)))))))
 
--- the first week and the others, where there is one
+-- the first week and the others, if there is one
 abbrev first_or : WeekData → List WeekData → WeekData
 first_or d [] = d
 first_or d (w ∷ ws) = w
@@ -415,7 +415,7 @@ made_of : (d w : WeekData) (n : ℕ) (ws b : List WeekData) → length b ≡ suc
 made_of d w n ws [] len e f = absurd (omega arith)
 made_of d w n ws (x ∷ b) len e f = λ i. e i ∷ f i
 
--- the keyword after a week that so many follow
+-- the keyword after a week that is followed by n others
 abbrev keyword_after : ℕ → Keyword
 keyword_after zero = keyword.Solution
 keyword_after (suc n) = keyword.WeekData
@@ -436,7 +436,7 @@ weeks_begin zero (w ∷ ws) ps e begins = absurd (omega arith)
 weeks_begin (suc n) [] ps e begins = absurd (omega arith)
 weeks_begin (suc n) (w ∷ ws) ps e begins = record { rest = _; is = refl }
 
--- one week, so many others, and then the solutions
+-- one week, n others, and then the solutions
 module _ (n : ℕ) {B : Type 0} (V : B → Type 0) (get : B → List WeekData) (many : (b : B) → V b → length (get b) ≡ suc n) (patB : B → List Pattern) (k : List WeekData → List Seen → Read B)
     (begins : (b : B) → V b → BeginsWith keyword.Solution (patB b))
     (rest : (w : WeekData) → Reader (λ b. V b × (first_or example (get b) ≡ w)) (λ b. grammar.weeks (later (get b)) ++ patB b) (λ ts. times_at week_data_at n ts >>= λ ws. k (w ∷ ws.0) ws.1)) where
@@ -468,7 +468,7 @@ module _ (n : ℕ) {B : Type 0} (V : B → Type 0) (get : B → List WeekData) (
       (week_step (keyword_after n) (follows n) V (λ b. first_or example (get b)) (λ b. grammar.weeks (later (get b)) ++ patB b) (λ w ts. times_at week_data_at n ts >>= λ ws. k (w ∷ ws.0) ws.1)
       (λ b v. weeks_begin n (later (get b)) (patB b) (later_many n (get b) (many b v)) (begins b v)) rest))
 
--- so many weeks, and then the solutions
+-- n weeks, and then the solutions
 weeks_step : (n : ℕ) {B : Type 0} (V : B → Type 0) (get : B → List WeekData) → ((b : B) → V b → length (get b) ≡ n) → (patB : B → List Pattern) (k : List WeekData → List Seen → Read B) → ((b : B) → V b → 0 < n → BeginsWith keyword.Solution (patB b)) → ((ws : List WeekData) → length ws ≡ n → Reader (λ b. V b × (get b ≡ ws)) patB (k ws))
     → Reader V (λ b. grammar.weeks (get b) ++ patB b) (λ ts. times_at week_data_at n ts >>= λ x. k x.0 x.1)
 unfolding times_at
@@ -504,7 +504,7 @@ solution_reader =
 
 -- ---- the bundle
 
--- as many history lines as nurses, and as many weeks and solutions as the scenario says
+-- the history has a line for each nurse, and there are as many weeks and solutions as the scenario says
 pub record Counted (b : Bundle) : Type 0 where
   pub history_lines : length b.history.nurses ≡ length b.scenario.nurses.items
   pub week_data_parts : length b.week_data ≡ b.scenario.weeks.value

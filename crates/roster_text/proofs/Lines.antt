@@ -1,4 +1,4 @@
--- The canonical text, line by line, and how many lines it has.
+-- The canonical text, line by line, and the number of its lines.
 use Rattle.std.proofs.Common.{◌≡◌, ℕ, ◌+◌, List, [], ◌∷◌, ◌++◌, Option, None, Some, if◌then◌else◌, length, is_some, option_map, codes, decimal, refl, sym, ap, ◌∙◌, arith, append_assoc, length-append}
 use Rattle.std.specs.Option.{option_map_or}
 use Rattle.std.specs.List.{flat_map, filter_map, cons_option, range_with_len}
@@ -32,18 +32,18 @@ canonical_is s =
     let lines = flat_map-flat_map assignment_line (nurse_assignments s) (range_with_len 0 s.nurses) ∙ flat_map-same _ (nurse_lines s) (nurse_lines_is s) (range_with_len 0 s.nurses) in
     ap (λ l. heading s ++ l) lines
 
--- the line in its parts
+-- the line, word by word
 pub line_text_is : (nurse day shift skill : List ℕ)
     → line_text nurse day shift skill ≡ nurse ++ (codes " " ++ (day ++ (codes " " ++ (shift ++ (codes " " ++ (skill ++ (codes "\n" ++ [])))))))
 line_text_is nurse day shift skill = simp append_assoc
 
--- a line where the nurse works
+-- the line of a weekday on which the nurse works
 pub line_on_works : (s : Shown) (n weekday : ℕ) (nurse day shift skill : List ℕ) → Some (shift, skill) ≡ s.on n weekday → nurse ≡ s.nurse n → day ≡ weekday_text weekday
     → line_on s n weekday ≡ line_text nurse day shift skill
 unfolding line_on assignment_line
 line_on_works s n weekday nurse day shift skill on e d = rw (← on, ← e, d) refl
 
--- and none where it is free
+-- the line of a weekday on which the nurse is off is empty
 pub line_on_free : (s : Shown) (n weekday : ℕ) → None ≡ s.on n weekday → line_on s n weekday ≡ []
 unfolding line_on
 line_on_free s n weekday e = rw (← e) refl
@@ -53,7 +53,7 @@ pub heading_is : (s : Shown) (week name count : List ℕ) → week ≡ decimal s
 unfolding heading
 heading_is s week name count e f h = rw (e, f, h) (simp append_assoc)
 
--- ---- how many assignments there are
+-- ---- the number of assignments
 
 is_some-option_map : {X Y : Type 0} (f : X → Y) (o : Option X) → is_some (option_map f o) ≡ is_some o
 is_some-option_map f None = refl

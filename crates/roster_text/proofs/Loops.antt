@@ -1,4 +1,4 @@
--- Reading parts one after the other, as a loop does.
+-- Reading items one after the other, as a loop does.
 use Rattle.std.proofs.Common.{◌≡◌, ℕ, suc, ◌-◌, ◌+◌, ◌≤◌, ◌<◌, true, false, List, [], ◌∷◌, ◌++◌, length, drop, Ok, Err, refl, sym, ap, ◌∙◌, append_assoc, arith}
 use Rattle.std.proofs.lemmas.List.{append-nil, length-map}
 use Rattle.roster_text.specs.declared.fault.Keyword.{Keyword}
@@ -10,7 +10,7 @@ use Rattle.roster_bundle.specs.declared.token.Token.{Token}
 use Rattle.roster_bundle.specs.Token.{Seen, seen, all_seen}
 use Rattle.roster_text.specs.Reading.{Read, Reads, ◌>>=◌, times_at, until_at, until_with, begins_section}
 
--- what was read before, and what is still read
+-- the items read before, and those still to be read
 abbrev pub with_front : {A : Type 0} → List A → Read (List A) → Read (List A)
 with_front front read = read >>= λ x. Ok (front ++ x.0, x.1)
 
@@ -18,7 +18,7 @@ regroup : {A : Type 0} (front : List A) (x : A) (read : Read (List A)) → with_
 regroup front x (Ok y) = ap (λ (xs : _). Ok (xs, y.1)) (simp append_assoc)
 regroup front x (Err f) = refl
 
--- ---- so many
+-- ---- a given number of items
 
 pub times_goes_on : {A : Type 0} (read : List Seen → Read A) (front : List A) (count i : ℕ) (ts : List Seen) (x : A) (rest : List Seen) (total : Read (List A)) → i < count → read ts ≡ Ok (x, rest)
     → with_front front (times_at read (count - i) ts) ≡ total → with_front (front ++ x ∷ []) (times_at read (count - (i + 1)) rest) ≡ total
@@ -50,7 +50,7 @@ same_with_nil : {A : Type 0} (read : Read (List A)) → with_front [] read ≡ r
 same_with_nil (Ok x) = refl
 same_with_nil (Err f) = refl
 
--- one more than the tokens
+-- the number of tries: one more than there are tokens
 pub tries : (source : List ℕ) (tokens : List Token) (ts : List Seen) → all_seen source tokens ≡ ts → suc (length ts) ≡ length tokens + 1
 tries source tokens ts e = omega (arith, length-map tokens (seen source), ap length e)
 
@@ -85,7 +85,7 @@ until_done read k front tries i ts total lt end so_far =
     let one : with_front front (until_with read k (tries - i) ts) ≡ Ok (front, drop 2 ts) = rw (n, end) (ap (λ (xs : _). Ok (xs, drop 2 ts)) (append-nil front)) in
     sym so_far ∙ one
 
--- with no try left, another line would be due
+-- when no try is left, another line would be due
 pub until_ends : {A : Type 0} (read : List Seen → Read A) (k : Keyword) (front : List A) (tries i : ℕ) (ts : List Seen) (total : Read (List A)) → tries ≤ i → with_front front (until_with read k (tries - i) ts) ≡ total → total ≡ Err (Due what.Name, ts)
 unfolding until_with
 until_ends read k front tries i ts total le so_far =

@@ -20,7 +20,8 @@ use Rattle.roster_text.specs.FirstFault.{wants_number}
 use Rattle.roster_text.specs.Reading.{Read, word_at, name_at, number_at, value_at, is_day, day_of, all_days, day_or_stop, day_at}
 use Rattle.roster_text.proofs.Readers.{Reader, Stops, Found, refusal, same_value, same_rest}
 
--- The function answers the value that the first token fits, and refuses any other token, and the end.
+-- The function returns the value of the pattern that the first token fits, and refuses any other token, and
+-- the end.
 pub record OneToken {A : Type 0} (p : A → Pattern) (read : List Seen → Read A) : Type 0 where
   pub at_end : (a : A) → read [] ≡ Err (Due (label (p a)), [])
   pub fits : (t : Seen) (ts : List Seen) (a : A) → Fits (p a) t → read (t ∷ ts) ≡ Ok (a, ts)
@@ -187,7 +188,7 @@ name_one = record {
 abbrev number_of : Seen → Number
 number_of t = record { token = t.token; value = digits_value 10 t.text }
 
--- what reading a number answers at a token
+-- what reading a number gives at a token
 number_gives : (limit : ℕ) (t : Seen) (ts : List Seen) →
     ((is_number t.text ≡ true) × (digits_value 10 t.text ≤ limit) × ((other : List Seen) → number_at limit (t ∷ other) ≡ Ok (number_of t, other)))
     ⊎ ((r : Refusal) × ((token : Token) (n : ℕ) → r ≡ refusal (placed token limit n) (t ∷ ts)) × ((other : List Seen) → number_at limit (t ∷ other) ≡ Err (r, t ∷ other)))
@@ -270,7 +271,7 @@ value_refused limit a t ts left r e =
 value_fits : (limit : ℕ) (t : Seen) (ts : List Seen) (a : ℕ) → Fits (number limit a) t → value_at limit (t ∷ ts) ≡ Ok (a, ts)
 value_fits limit t ts a h = rw (number_fits limit t ts (record { token = t.token; value = a }) (h.0, h.1, h.2, refl)) refl
 
--- `0`, a number within each limit
+-- `0`, which is within each limit
 pub zero_seen : Seen
 zero_seen = seen_as (48 ∷ [])
 

@@ -1,4 +1,4 @@
--- Reading a section that may be absent, and then a part that begins with a keyword of its own.
+-- Reading a section that may be absent, and then one that begins with a keyword of its own.
 use Rattle.std.proofs.Common.{◌≡◌, ◌⊎◌, inl, inr, ℕ, true, false, cond, List, [], ◌∷◌, ◌++◌, Option, Some, None, Ok, Err, refl, sym, ap, subst, ◌∙◌, codes}
 use Rattle.std.proofs.lemmas.Bool.{cases_Bool, false_from_ne_true}
 use Rattle.std.specs.Str.{bytes_eq}
@@ -21,13 +21,13 @@ pub outcome : {A : Type 0} (r : Read A) → ((x : A × List Seen) × (r ≡ Ok x
 outcome (Ok x) = inl (x, refl)
 outcome (Err d) = inr (d, refl)
 
--- the same reader of a function that reads the same
+-- a reader also describes each function that reads the same
 pub with_read : {B : Type 0} {V : B → Type 0} {pat : B → List Pattern} (r s : List Seen → Read B) → ((ts : List Seen) → r ts ≡ s ts) → Reader V pat r → Reader V pat s
 with_read {B} {V} {pat} r s same reader = subst (λ (f : List Seen → Read B). Reader V pat f) (λ i ts. same ts i) reader
 
--- ---- one reader or the other, by the first token
+-- ---- one reader or the other, depending on the first token
 
--- the patterns begin with one that says the same is due, and that the text doesn't fit
+-- the first pattern is one for which the same is due, and which the text doesn't fit
 pub record BeginsElse (due : What) (text : List ℕ) (ps : List Pattern) : Type 0 where
   pub next : Pattern
   pub rest : List Pattern
@@ -112,12 +112,12 @@ module _ {B : Type 0} (V IsElse IsSo : B → Type 0) (pat : B → List Pattern) 
         | inr w ↦ whole_so b front rest w s
       ]
 
-  -- ---- where it stops
+  -- ---- where reading stops
 
   same_way : (ts front left : List Seen) → ts ≡ front ++ left → (t : Seen) (us other : List Seen) → left ≡ t ∷ us → begins_with k ts ≡ begins_with k (front ++ t ∷ other)
   same_way ts front left split t us other e = ap (begins_with k) (split ∙ ap (λ (vs : List Seen). front ++ vs) e) ∙ same_head k front us other t
 
-  -- where it goes one way it stops as that reader does
+  -- if reading takes one of the two ways, it stops as that reader does
   stops_so_far : (read : List Seen → Read B) (W : B → Type 0) → ((b : B) → W b → V b) → (ts : List Seen) (r : Refusal) (left : List Seen) (s : Stops W pat read ts r left)
       → ((t : Seen) (us other : List Seen) → left ≡ t ∷ us → either (s.front ++ t ∷ other) ≡ read (s.front ++ t ∷ other)) → Stops V pat either ts r left
   stops_so_far read W valid ts r left s same = record {
@@ -147,7 +147,7 @@ module _ {B : Type 0} (V IsElse IsSo : B → Type 0) (pat : B → List Pattern) 
             stops_so_far read_else IsElse valid_else ts r left s (λ t us other f. either_else (s.front ++ t ∷ other) (sym (same_way ts s.front left s.split t us other f) ∙ other_way))
       ]
 
-  -- ---- a front that lacks something
+  -- ---- tokens after which something is still due
 
   empty_ends : either [] ≡ Err (Due due, [])
   empty_ends =
@@ -194,16 +194,16 @@ module _ {B : Type 0} (V IsElse IsSo : B → Type 0) (pat : B → List Pattern) 
     ends = either_ends;
   }
 
--- ---- a section that may be absent, and then a part that begins with a keyword
+-- ---- a section that may be absent, and then one that begins with a keyword
 
--- the part begins with a place where this keyword is due, and with a text other than the section's keyword
+-- the first pattern is one for which this keyword is due, and its text isn't the optional section's keyword
 pub record BeginsOther (k due : Keyword) (ps : List Pattern) : Type 0 where
   pub text : List ℕ
   pub rest : List Pattern
   pub is : ps ≡ fixed (what.Keyword due) text ∷ rest
   pub other : text ≡ keyword_text k → ⊥
 
--- the items, where the section is there
+-- the items, if the section is there
 abbrev listed_or : {A : Type 0} → Listed A → Option (Listed A) → Listed A
 listed_or d None = d
 listed_or d (Some xs) = xs

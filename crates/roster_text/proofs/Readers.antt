@@ -1,5 +1,5 @@
--- What it means that a reading function reads just what a list of patterns says, and how such functions are
--- put together. A part of the grammar is then a line for each of its fields.
+-- What it means that a reading function reads exactly what a list of patterns describes, and how such
+-- functions are combined. A section of the grammar then takes one line for each of its fields.
 use Rattle.std.proofs.Common.{◌≡◌, ◌⊎◌, inl, inr, List, [], ◌∷◌, ◌++◌, Ok, Err, refl, sym, ap, subst, ◌∙◌, append_assoc, ◌&&◌}
 use Rattle.std.specs.Prelude.{if◌then◌else◌}
 use Rattle.roster_text.specs.declared.parser.Refusal.{Refusal}
@@ -8,14 +8,14 @@ use Rattle.roster_bundle.specs.Token.{Seen}
 use Rattle.roster_text.specs.Grammar.{Pattern, Spelled, label, is_number}
 use Rattle.roster_text.specs.FirstFault.{wants_number}
 use Rattle.roster_text.specs.Reading.{Read, ◌>>=◌}
-use Rattle.roster_text.proofs.Spelling.{spelled_append, parted, cut}
+use Rattle.roster_text.proofs.Spelling.{spelled_append, divided, cut}
 
--- why a token that doesn't fit is refused: digits alone are a number out of range where a number is due
+-- why a token that doesn't fit is refused: digits alone are out of range if a number is due
 abbrev pub refusal : Pattern → List Seen → Refusal
 refusal p [] = Due (label p)
 refusal p (t ∷ ts) = if wants_number (label p) && is_number t.text then OutOfRange else Due (label p)
 
--- the tokens begin with some that fit the patterns, and these are left
+-- the tokens begin with some that fit the patterns, and `rest` is left
 pub record Takes (ps : List Pattern) (ts rest : List Seen) : Type 0 where
   pub front : List Seen
   pub split : ts ≡ front ++ rest
@@ -25,15 +25,15 @@ pub record Found {B : Type 0} (V : B → Type 0) (pat : B → List Pattern) (ts 
   pub valid : V b
   pub takes : Takes (pat b) ts rest
 
--- A value that is spelled by some tokens.
+-- A value with tokens that spell it.
 pub record Example {B : Type 0} (V : B → Type 0) (pat : B → List Pattern) : Type 0 where
   pub value : B
   pub tokens : List Seen
   pub valid : V value
   pub spelled : Spelled (pat value) tokens
 
--- Reading stops at the tokens `left`: those before fit the patterns before `next` of some value, which more
--- tokens could complete; and it stops the same whatever stands after the refused token.
+-- Reading stops at the tokens `left`. The tokens before them fit the patterns before `next` of some value,
+-- which more tokens could complete. It stops the same whatever follows the refused token.
 pub record Stops {B : Type 0} (V : B → Type 0) (pat : B → List Pattern) (read : List Seen → Read B) (ts : List Seen) (r : Refusal) (left : List Seen) : Type 0 where
   pub front : List Seen
   pub split : ts ≡ front ++ left
@@ -49,17 +49,17 @@ pub record Stops {B : Type 0} (V : B → Type 0) (pat : B → List Pattern) (rea
   pub is : r ≡ refusal next left
   pub again : (t : Seen) (us other : List Seen) → left ≡ t ∷ us → read (front ++ t ∷ other) ≡ Err (r, t ∷ other)
 
--- The function reads just the values that meet V, by their patterns.
+-- The function reads exactly the values that meet V, by their patterns.
 pub record Reader {B : Type 0} (V : B → Type 0) (pat : B → List Pattern) (read : List Seen → Read B) : Type 0 where
-  -- what is read is spelled by the front
+  -- what is read is spelled by the tokens that were taken
   pub sound : (ts rest : List Seen) (b : B) → read ts ≡ Ok (b, rest) → Found V pat ts rest b
   -- what is spelled is read, whatever follows
   pub whole : (b : B) (front rest : List Seen) → V b → Spelled (pat b) front → read (front ++ rest) ≡ Ok (b, rest)
-  -- something is
+  -- some value is valid and spelled
   pub some : Example V pat
-  -- where it stops, the front goes on and the token doesn't
+  -- where it stops, the tokens before can be completed, and with the refused token they can't
   pub stops : (ts : List Seen) (r : Refusal) (left : List Seen) → read ts ≡ Err (r, left) → Stops V pat read ts r left
-  -- a front that lacks something stops at its end
+  -- tokens that end before a due pattern stop at their end
   pub ends : (b : B) (done due : List Pattern) (p : Pattern) (front more : List Seen) → V b → pat b ≡ done ++ p ∷ due → Spelled done front → Spelled (p ∷ due) more → read front ≡ Err (Due (label p), [])
 
 -- ---- nothing left to read
@@ -136,7 +136,7 @@ module _ {A B : Type 0} (VA : A → Type 0) (patA : A → List Pattern) (readA :
 
   then_whole : (b : B) (front rest : List Seen) → V b → Spelled (both b) front → read (front ++ rest) ≡ Ok (b, rest)
   then_whole b front rest v s =
-      let p = parted (patA (get b)) (patB b) front s in
+      let p = divided (patA (get b)) (patB b) front s in
       let a = first.whole (get b) p.front (p.back ++ rest) (valid b v) p.first in
       let c = (rest_of (get b) (valid b v)).whole b p.back rest (v, refl) p.second in
       let e : front ++ rest ≡ p.front ++ (p.back ++ rest) = ap (λ (us : List Seen). us ++ rest) p.split ∙ append_assoc p.front p.back rest in
@@ -154,7 +154,7 @@ module _ {A B : Type 0} (VA : A → Type 0) (patA : A → List Pattern) (readA :
         spelled = spelled_append (patA (get b.value)) (patB b.value) a.tokens b.tokens s b.spelled;
       }
 
-  -- the first part stops: an example of the rest completes its value
+  -- the first field stops: an example of the rest completes its value
   stops_in_first : (ts : List Seen) (r : Refusal) (left : List Seen) → Stops VA patA readA ts r left → Stops V both read ts r left
   stops_in_first ts r left s =
       let b = (rest_of s.value s.valid).some in
@@ -211,13 +211,13 @@ module _ {A B : Type 0} (VA : A → Type 0) (patA : A → List Pattern) (readA :
       elim (cut (patA (get b)) (patB b) done due p e) [
         | inl c ↦
             let m' : Spelled ((p ∷ c.rest) ++ patB b) more = subst (λ (ps : List Pattern). Spelled (p ∷ ps) more) c.after m in
-            let q = parted (p ∷ c.rest) (patB b) more m' in
-            bind_stops (readA front) (λ x. k x.0 x.1) (Due (label p), []) (first.ends (get b) done c.rest p front q.front (valid b v) c.place s q.first)
+            let q = divided (p ∷ c.rest) (patB b) more m' in
+            bind_stops (readA front) (λ x. k x.0 x.1) (Due (label p), []) (first.ends (get b) done c.rest p front q.front (valid b v) c.position s q.first)
         | inr c ↦
             let s' : Spelled (patA (get b) ++ c.before) front = subst (λ (ps : List Pattern). Spelled ps front) c.passed s in
-            let q = parted (patA (get b)) c.before front s' in
+            let q = divided (patA (get b)) c.before front s' in
             let a = first.whole (get b) q.front q.back (valid b v) q.first in
-            let d = (rest_of (get b) (valid b v)).ends b c.before due p q.back more (v, refl) c.place q.second m in
+            let d = (rest_of (get b) (valid b v)).ends b c.before due p q.back more (v, refl) c.position q.second m in
             ap read q.split ∙ bind_to (readA (q.front ++ q.back)) (λ x. k x.0 x.1) (get b, q.back) (Err (Due (label p), [])) a d
       ]
 

@@ -1,4 +1,4 @@
--- Reading several of a kind: so many, a section, lines up to the next section.
+-- Reading several items of a kind: a given number, a section, lines up to the next section.
 use Rattle.std.proofs.Common.{◌≡◌, ℕ, zero, suc, false, List, [], ◌∷◌, ◌++◌, length, Ok, refl, sym, ap, subst, ◌∙◌, codes, arith}
 use Rattle.std.proofs.lemmas.List.{append-nil}
 use Rattle.std.specs.List.{flat_map}
@@ -20,7 +20,7 @@ use Rattle.roster_bundle.specs.Limits.{most_counted}
 abbrev pub every : {A : Type 0} → A → Type 0
 every a = Unit {0}
 
--- the same reader under a fact that says the same
+-- the same reader for an equivalent condition
 pub with_fact : {B : Type 0} (V W : B → Type 0) (pat : B → List Pattern) (read : List Seen → Read B) → ((b : B) → V b → W b) → ((b : B) → W b → V b) → Reader V pat read → Reader W pat read
 with_fact V W pat read to back r = record {
   sound = λ ts rest b e. let f = r.sound ts rest b e in record { valid = to b f.valid; takes = f.takes };
@@ -32,14 +32,14 @@ with_fact V W pat read to back r = record {
   ends = λ b done due p front more w e s m. r.ends b done due p front more (back b w) e s m;
 }
 
--- a text that stands as it is, and then the rest
+-- a fixed text, and then the rest
 pub then_word : {B : Type 0} (V : B → Type 0) (due : What) (text : List ℕ) → wants_number due ≡ false → (pat : B → List Pattern) (k : List Seen → Read B) → Reader V pat k
     → Reader V (λ b. fixed due text ∷ pat b) (λ ts. word_at due text ts >>= λ x. k x.1)
 then_word V due text no_number pat k r =
     then every (λ _. fixed due text ∷ []) (word_at due text) (one_reader (λ _. fixed due text) (word_at due text) (word_one due text no_number))
     V (λ _. tt) (λ b v. tt) pat (λ a ts. k ts) (λ a v. with_fact V (λ b. V b × (tt ≡ a)) pat k (λ b w. (w, refl)) (λ b w. w.0) r)
 
--- the same reader under patterns that are the same for valid values
+-- the same reader for patterns that are equal for valid values
 pub with_patterns : {B : Type 0} (V : B → Type 0) (p q : B → List Pattern) (read : List Seen → Read B) → ((b : B) → V b → p b ≡ q b) → Reader V p read → Reader V q read
 with_patterns V p q read same r = record {
   sound = λ ts rest b e.
@@ -53,12 +53,12 @@ with_patterns V p q read same r = record {
   ends = λ b done due next front more v e s m. r.ends b done due next front more v (same b v ∙ e) s m;
 }
 
--- ---- so many
+-- ---- a given number of items
 
 abbrev pub AreMany : {A : Type 0} → ℕ → List A → Type 0
 AreMany n xs = length xs ≡ n
 
--- xs without its first, where it has one
+-- xs without its first item, if it has one
 abbrev tail : {A : Type 0} → List A → List A
 tail [] = []
 tail (x ∷ xs) = xs
@@ -67,7 +67,7 @@ abbrev head_or : {A : Type 0} → A → List A → A
 head_or d [] = d
 head_or d (x ∷ xs) = x
 
--- a list of one more than n is its first and the rest
+-- a list of n + 1 items is its first and the rest
 made_of : {A : Type 0} (d a : A) (n : ℕ) (xs b : List A) → ((length b ≡ suc n) × (head_or d b ≡ a)) × (tail b ≡ xs) → b ≡ a ∷ xs
 made_of d a n xs [] v = absurd (let bad = v.0.0 in omega arith)
 made_of d a n xs (x ∷ b) v = λ i. v.0.1 i ∷ v.1 i

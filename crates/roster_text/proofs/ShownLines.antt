@@ -20,7 +20,7 @@ use Rattle.roster_text.proofs.TokenLemmas.{is_mark-word_byte}
 
 -- ---- days
 
--- the day of a number
+-- the day with this number
 pub record IsDay (n : ℕ) : Type 0 where
   pub day : Day
   pub number : weekday day ≡ n
@@ -38,7 +38,7 @@ is_day (suc (suc (suc (suc (suc zero))))) h = record { day = days.Saturday; numb
 is_day (suc (suc (suc (suc (suc (suc zero)))))) h = record { day = days.Sunday; number = refl; text = refl; word = refl }
 is_day (suc (suc (suc (suc (suc (suc (suc n))))))) h = absurd (omega arith)
 
--- ---- each assignment stands on a day of the week
+-- ---- the day of each assignment is one of a week
 
 abbrev OnWeek : ShownAssignment → Type 0
 OnWeek a = a.weekday < 7
@@ -64,7 +64,7 @@ pub all_on_week : (s : Shown) → AllByRecursion OnWeek (assignments s)
 unfolding assignments nurse_assignments
 all_on_week s = AllByRecursion-flat_map OnWeek (nurse_assignments s) (λ n. on_week s n 0 7 (omega arith)) (range_with_len 0 s.nurses)
 
--- an assignment that can be read: its names are words and it stands on a day
+-- an assignment that can be read: its names are words and its day is one of a week
 pub record IsLine (a : ShownAssignment) : Type 0 where
   pub words : HasWords a
   pub day : IsDay a.weekday

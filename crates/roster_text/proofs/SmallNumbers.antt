@@ -1,4 +1,5 @@
--- A bundle that is spelled has small numbers: each number of its patterns is within the pattern's limit.
+-- A bundle that is spelled has small numbers, since each number of its patterns is within the pattern's
+-- limit.
 use Rattle.std.proofs.Common.{◌≤◌, List, [], ◌∷◌, ◌++◌, All, codes}
 use Rattle.std.specs.List.{flat_map}
 use Rattle.std.proofs.lemmas.List.Elements.{All-cons, All-nil}
@@ -37,7 +38,7 @@ abbrev AreWithin : List Pattern → Type 0
 AreWithin [] = Unit {0}
 AreWithin (p ∷ ps) = IsWithin p × AreWithin ps
 
--- where a token fits, it is
+-- a pattern that a token fits is within its limit
 fits_within : (p : Pattern) (t : Seen) → Fits p t → IsWithin p
 fits_within (fixed due text) t f = tt
 fits_within (name n) t f = tt
@@ -50,13 +51,13 @@ spelled_within [] ts s = tt
 spelled_within (p ∷ ps) [] s = absurd s
 spelled_within (p ∷ ps) (t ∷ ts) s = (fits_within p t s.0, spelled_within ps ts s.1)
 
--- ---- patterns one after the other
+-- ---- lists of patterns
 
 both_within : (ps qs : List Pattern) → AreWithin (ps ++ qs) → AreWithin ps × AreWithin qs
 both_within [] qs w = (tt, w)
 both_within (p ∷ ps) qs w = let later = both_within ps qs w.1 in ((w.0, later.0), later.1)
 
--- each piece is within
+-- each list of patterns is within its limits
 abbrev EachWithin : List (List Pattern) → Type 0
 EachWithin [] = Unit {0}
 EachWithin (ps ∷ pieces) = AreWithin ps × EachWithin pieces
@@ -65,14 +66,14 @@ parts_within : (pieces : List (List Pattern)) → AreWithin (parts pieces) → E
 parts_within [] w = tt
 parts_within (ps ∷ pieces) w = let both = both_within ps (parts pieces) w in (both.0, parts_within pieces both.1)
 
--- what the patterns of an item say, of each item
+-- a property that follows from the patterns of each item holds of all items
 items_within : {T : Type 0} (P : T → Type 0) (pat : T → List Pattern) → ((x : T) → AreWithin (pat x) → P x) → (xs : List T) → AreWithin (flat_map pat xs) → All P xs
 items_within P pat item [] w = All-nil P
 items_within P pat item (x ∷ xs) w =
     let both = both_within (pat x) (flat_map pat xs) w in
     All-cons P x xs (item x both.0) (items_within P pat item xs both.1)
 
--- ---- the parts of a bundle
+-- ---- the sections of a bundle
 
 small_pair : (p : Pair) → AreWithin (grammar.pair p) → IsSmallPair p
 small_pair p w = record { least = w.1.0; greatest = w.1.1.1.0 }
@@ -109,7 +110,7 @@ small_pairs d w =
 small_requirement : (r : Requirement) → AreWithin (grammar.requirement r) → AreSmallPairs r.days
 small_requirement r w = small_pairs r.days (parts_within (grammar.named r.shift ∷ grammar.named r.skill ∷ grammar.week_pairs r.days ∷ []) w).1.1.0
 
--- of the items of a section, without its keyword and `=` and with them
+-- of the items of a section: first without its keyword and `=`, then with them
 rest_within : {T : Type 0} (P : T → Type 0) (pat : T → List Pattern) → ((x : T) → AreWithin (pat x) → P x) → (xs : Listed T) → AreWithin (grammar.rest_of_section pat xs) → All P xs.items
 rest_within P pat item xs w = items_within P pat item xs.items (parts_within (flat_map pat xs.items ∷ []) w.1).0
 

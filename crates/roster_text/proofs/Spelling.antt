@@ -9,39 +9,39 @@ spelled_append (p ∷ ps) qs (t ∷ ts) us s h = (s.0, spelled_append ps qs ts u
 spelled_append [] qs (t ∷ ts) us s h = absurd s
 spelled_append (p ∷ ps) qs [] us s h = absurd s
 
--- tokens in two parts, that fit one list of patterns and then the other
-pub record Parted (ps qs : List Pattern) (ts : List Seen) : Type 0 where
+-- tokens split in two: the first ones fit one list of patterns, the rest fit the other
+pub record Divided (ps qs : List Pattern) (ts : List Seen) : Type 0 where
   pub front : List Seen
   pub back : List Seen
   pub split : ts ≡ front ++ back
   pub first : Spelled ps front
   pub second : Spelled qs back
 
-pub parted : (ps qs : List Pattern) (ts : List Seen) → Spelled (ps ++ qs) ts → Parted ps qs ts
-parted [] qs ts s = record { front = []; back = ts; split = refl; first = tt; second = s }
-parted (p ∷ ps) qs [] s = absurd s
-parted (p ∷ ps) qs (t ∷ ts) s =
-    let r = parted ps qs ts s.1 in
+pub divided : (ps qs : List Pattern) (ts : List Seen) → Spelled (ps ++ qs) ts → Divided ps qs ts
+divided [] qs ts s = record { front = []; back = ts; split = refl; first = tt; second = s }
+divided (p ∷ ps) qs [] s = absurd s
+divided (p ∷ ps) qs (t ∷ ts) s =
+    let r = divided ps qs ts s.1 in
     record { front = t ∷ r.front; back = r.back; split = ap (λ (xs : List Seen). t ∷ xs) r.split; first = (s.0, r.first); second = r.second }
 
--- a place in a list that is put together of two stands in the first or in the second
+-- a pattern in a list that is joined of two is in the first or in the second
 pub record InFirst (ps qs done due : List Pattern) (p : Pattern) : Type 0 where
   pub rest : List Pattern
-  pub place : ps ≡ done ++ p ∷ rest
+  pub position : ps ≡ done ++ p ∷ rest
   pub after : due ≡ rest ++ qs
 
 pub record InSecond (ps qs done due : List Pattern) (p : Pattern) : Type 0 where
   pub before : List Pattern
   pub passed : done ≡ ps ++ before
-  pub place : qs ≡ before ++ p ∷ due
+  pub position : qs ≡ before ++ p ∷ due
 
 pub cut : (ps qs done due : List Pattern) (p : Pattern) → ps ++ qs ≡ done ++ p ∷ due → InFirst ps qs done due p ⊎ InSecond ps qs done due p
-cut [] qs done due p e = inr (record { before = done; passed = refl; place = e })
-cut (a ∷ ps) qs [] due p e = inl (record { rest = ps; place = cc; after = cc })
+cut [] qs done due p e = inr (record { before = done; passed = refl; position = e })
+cut (a ∷ ps) qs [] due p e = inl (record { rest = ps; position = cc; after = cc })
 cut (a ∷ ps) qs (d ∷ done) due p e =
     let head : a ≡ d = cc in
     let tail : ps ++ qs ≡ done ++ p ∷ due = cc in
     elim (cut ps qs done due p tail) [
-      | inl r ↦ inl (record { rest = r.rest; place = cc (r.place); after = r.after })
-      | inr r ↦ inr (record { before = r.before; passed = cc (r.passed); place = r.place })
+      | inl r ↦ inl (record { rest = r.rest; position = cc (r.position); after = r.after })
+      | inr r ↦ inr (record { before = r.before; passed = cc (r.passed); position = r.position })
     ]

@@ -1,4 +1,4 @@
--- How many tokens begin at some places, counted one by one and by vectors.
+-- The number of tokens that begin in a range of positions, counted one by one and by vectors.
 use Rattle.std.proofs.Common.{◌≡◌, ◌∙◌, ℕ, zero, suc, ◌+◌, ◌-◌, ◌<◌, ◌≤◌, ◌%◌, ◌^◌, ◌&&◌, ◌||◌, Bool, true, false, not, cond, eqb, Option, Some, None, is_some, List, [], ◌∷◌, map, length, get_or, bit_and, bit_or, replicate, refl, sym, ap, ap₂, arith, w8, Fits, lt-ltb}
 use Rattle.std.specs.Prelude.{count_by}
 use Rattle.std.specs.List.{cons_option, filter_map, range_with_len}
@@ -35,7 +35,7 @@ pub length-tokens_from : (text : List ℕ) (i : ℕ) → length (tokens_from tex
 unfolding tokens_from starts_in
 length-tokens_from text i = tokens_at text (range_with_len i (length text - i))
 
--- the places up to one, and those from it on
+-- a range of positions, split in two
 starts_more : (text : List ℕ) (i m n : ℕ) → starts_in text i (m + n) ≡ starts_in text i m + starts_in text (i + m) n
 unfolding starts_in
 starts_more text i zero n =
@@ -61,12 +61,12 @@ starts_one : (text : List ℕ) (i : ℕ) → starts_in text i 1 ≡ cond (begins
 unfolding starts_in
 starts_one text i = count-step (begins_at text) i [] ∙ omega arith
 
--- one more place
+-- one more position
 pub starts_next : (text : List ℕ) (from at : ℕ) → from ≤ at → starts_in text from (at + 1 - from) ≡ starts_in text from (at - from) + cond (begins_at text at) 1 0
 starts_next text from at order =
     let more : at + 1 - from ≡ at - from + 1 = omega arith in
-    let place : from + (at - from) ≡ at = omega arith in
-    ap (starts_in text from) more ∙ starts_more text from (at - from) 1 ∙ ap (λ j. starts_in text from (at - from) + starts_in text j 1) place
+    let position : from + (at - from) ≡ at = omega arith in
+    ap (starts_in text from) more ∙ starts_more text from (at - from) 1 ∙ ap (λ j. starts_in text from (at - from) + starts_in text j 1) position
     ∙ ap (λ k. starts_in text from (at - from) + k) (starts_one text at)
 
 -- ---- lanes
@@ -81,15 +81,15 @@ chosen p n (b ∷ bs) long =
     let one_more : n ≡ suc (length bs) = omega arith in
     rw one_more (ap (λ xs. cond (p b) 255 0 ∷ xs) (chosen p (length bs) bs refl))
 
--- lanes that were computed byte by byte, where each of the 256 bytes gives what the test says
-told : (f : ℕ → ℕ) (p : ℕ → Bool) → agree_below (λ b. top 7 (f b)) p 256 ≡ true → (bytes : List ℕ) → Each1 (Fits w8) bytes → map (top 7) (map f bytes) ≡ map p bytes
-told f p all [] fits = refl
-told f p all (b ∷ bs) fits = ap₂ (λ x xs. x ∷ xs) (agree_below_at (λ c. top 7 (f c)) p 256 b all fits.0.fits) (told f p all bs fits.1)
+-- lanes that were computed byte by byte, if each of the 256 bytes gives what the test says
+tops_agree : (f : ℕ → ℕ) (p : ℕ → Bool) → agree_below (λ b. top 7 (f b)) p 256 ≡ true → (bytes : List ℕ) → Each1 (Fits w8) bytes → map (top 7) (map f bytes) ≡ map p bytes
+tops_agree f p all [] fits = refl
+tops_agree f p all (b ∷ bs) fits = ap₂ (λ x xs. x ∷ xs) (agree_below_at (λ c. top 7 (f c)) p 256 b all fits.0.fits) (tops_agree f p all bs fits.1)
 
 pub lanes_are : (f : ℕ → ℕ) (p : ℕ → Bool) (bytes z : List ℕ) → (length bytes ≡ 64) × Each1 (Fits w8) bytes → z ≡ map f bytes → agree_below (λ b. top 7 (f b)) p 256 ≡ true
     → sel_l (map (top 7) z) (replicate 64 255) (replicate 64 0) ≡ lanes_where p bytes
 lanes_are f p bytes z fits lanes all =
-    ap (λ (ms : List Bool). sel_l ms (replicate 64 255) (replicate 64 0)) (ap (map (top 7)) lanes ∙ told f p all bytes fits.1) ∙ chosen p 64 bytes fits.0
+    ap (λ (ms : List Bool). sel_l ms (replicate 64 255) (replicate 64 0)) (ap (map (top 7)) lanes ∙ tops_agree f p all bytes fits.1) ∙ chosen p 64 bytes fits.0
 
 -- the lanes of three tests of a byte, the first with some of its bits set
 pub three : (bits x y z : ℕ) (bytes : List ℕ) → length bytes ≡ 64
@@ -102,7 +102,7 @@ three bits x y z bytes long =
     zip2_of_maps bit_or (λ b. bit_or (hit (bit_or b bits) x) (hit b y)) (λ b. hit b z) bytes
     (zip2_of_maps bit_or (λ b. hit (bit_or b bits) x) (λ b. hit b y) bytes first (zip2_splat hit bytes 64 y long)) (zip2_splat hit bytes 64 z long)
 
--- the bytes of a load, by their places
+-- the bytes of a load, by their positions
 loaded : (text : List ℕ) (at n : ℕ) → at + n ≤ length text → chunk at n text ≡ map (λ k. get_or text k 0) (range_with_len at n)
 loaded text at n room = sym (pick_l-range_with_len 0 text at n room)
 
@@ -112,37 +112,37 @@ shifted f at (suc n) after =
     let next : at - 1 + 1 ≡ at + 1 - 1 = omega arith in
     ap (λ xs. f (at - 1) ∷ xs) (ap (λ j. map f (range_with_len j n)) next ∙ shifted f (at + 1) n (omega arith))
 
--- the lanes of the places before
+-- the load that begins one position earlier
 loaded_before : (text : List ℕ) (at n : ℕ) → 0 < at → at + n ≤ length text → chunk (at - 1) n text ≡ map (λ k. get_or text (k - 1) 0) (range_with_len at n)
 loaded_before text at n after room = loaded text (at - 1) n (omega arith) ∙ shifted (λ k. get_or text k 0) at n after
 
 abbrev pub lane : (ℕ → Bool) → ℕ → ℕ
 lane p b = cond (p b) 255 0
 
--- what a lane says of a byte, by its class and that of the byte before
+-- what a lane says of a byte, depending on its class and on that of the byte before
 abbrev pub said : Bool → Bool → Bool → Bool → ℕ
 said mark separator mark_before separator_before = bit_or (cond mark 255 0) (bit_and (bit_or (cond separator_before 255 0) (cond mark_before 255 0)) (cond separator 0 255))
 
-tells : (mark separator mark_before separator_before : Bool)
+said_agrees : (mark separator mark_before separator_before : Bool)
     → eqb (said mark separator mark_before separator_before) 255 ≡ (mark || (not (separator || mark) && not (not (separator_before || mark_before))))
-tells true true true true = refl
-tells true true true false = refl
-tells true true false true = refl
-tells true true false false = refl
-tells true false true true = refl
-tells true false true false = refl
-tells true false false true = refl
-tells true false false false = refl
-tells false true true true = refl
-tells false true true false = refl
-tells false true false true = refl
-tells false true false false = refl
-tells false false true true = refl
-tells false false true false = refl
-tells false false false true = refl
-tells false false false false = refl
+said_agrees true true true true = refl
+said_agrees true true true false = refl
+said_agrees true true false true = refl
+said_agrees true true false false = refl
+said_agrees true false true true = refl
+said_agrees true false true false = refl
+said_agrees true false false true = refl
+said_agrees true false false false = refl
+said_agrees false true true true = refl
+said_agrees false true true false = refl
+said_agrees false true false true = refl
+said_agrees false true false false = refl
+said_agrees false false true true = refl
+said_agrees false false true false = refl
+said_agrees false false false true = refl
+said_agrees false false false false = refl
 
--- `none` turns the bits of a lane
+-- `none` inverts the bits of a lane
 module _ (none : ℕ → ℕ) (none_of_all : none 255 ≡ 0) (none_of_none : none 0 ≡ 255) where
   turns : (separator : Bool) → none (cond separator 255 0) ≡ cond separator 0 255
   turns true = none_of_all
@@ -152,16 +152,16 @@ module _ (none : ℕ → ℕ) (none_of_all : none 255 ≡ 0) (none_of_none : non
     abbrev said_at : ℕ → ℕ
     said_at k = bit_or (lane is_mark (get_or text k 0)) (bit_and (bit_or (lane is_separator (get_or text (k - 1) 0)) (lane is_mark (get_or text (k - 1) 0))) (none (lane is_separator (get_or text k 0))))
 
-    tells_at : (k : ℕ) → 0 < k → eqb (said_at k) 255 ≡ begins_at text k
+    marks_at : (k : ℕ) → 0 < k → eqb (said_at k) 255 ≡ begins_at text k
     unfolding begins_at follows_word_byte is_word_byte
-    tells_at k after =
+    marks_at k after =
         ap (λ t. eqb (bit_or (lane is_mark (get_or text k 0)) (bit_and (bit_or (lane is_separator (get_or text (k - 1) 0)) (lane is_mark (get_or text (k - 1) 0))) t)) 255) (turns (is_separator (get_or text k 0)))
-        ∙ tells (is_mark (get_or text k 0)) (is_separator (get_or text k 0)) (is_mark (get_or text (k - 1) 0)) (is_separator (get_or text (k - 1) 0))
+        ∙ said_agrees (is_mark (get_or text k 0)) (is_separator (get_or text k 0)) (is_mark (get_or text (k - 1) 0)) (is_separator (get_or text (k - 1) 0))
         ∙ ap (λ b. is_mark (get_or text k 0) || (is_word_byte (get_or text k 0) && not (b && is_word_byte (get_or text (k - 1) 0)))) (sym (lt-ltb 0 k after))
 
-    tells_all : (at n : ℕ) → 0 < at → map (λ k. eqb (said_at k) 255) (range_with_len at n) ≡ map (begins_at text) (range_with_len at n)
-    tells_all at zero after = refl
-    tells_all at (suc n) after = ap₂ (λ b bs. b ∷ bs) (tells_at at after) (tells_all (at + 1) n (omega arith))
+    marks_all : (at n : ℕ) → 0 < at → map (λ k. eqb (said_at k) 255) (range_with_len at n) ≡ map (begins_at text) (range_with_len at n)
+    marks_all at zero after = refl
+    marks_all at (suc n) after = ap₂ (λ b bs. b ∷ bs) (marks_at at after) (marks_all (at + 1) n (omega arith))
 
     module _ (at n : ℕ) (after : 0 < at) (room : at + n ≤ length text) (few : n ≤ 64) where
       lanes_at : (p : ℕ → Bool) {ls : List ℕ} → ls ≡ lanes_where p (chunk at n text) → ls ≡ map (λ k. lane p (get_or text k 0)) (range_with_len at n)
@@ -170,7 +170,7 @@ module _ (none : ℕ → ℕ) (none_of_all : none 255 ≡ 0) (none_of_none : non
       lanes_before : (p : ℕ → Bool) {ls : List ℕ} → ls ≡ lanes_where p (chunk (at - 1) n text) → ls ≡ map (λ k. lane p (get_or text (k - 1) 0)) (range_with_len at n)
       lanes_before p e = e ∙ ap (lanes_where p) (loaded_before text at n after room) ∙ map-map (lane p) (λ k. get_or text (k - 1) 0) (range_with_len at n)
 
-      -- the vectors of marks and separators, and the two of the places before
+      -- the vectors of marks and separators, and the same two for the positions before
       pub counted : {ms ss msb ssb : List ℕ} → ms ≡ lanes_where is_mark (chunk at n text) → ss ≡ lanes_where is_separator (chunk at n text)
           → msb ≡ lanes_where is_mark (chunk (at - 1) n text) → ssb ≡ lanes_where is_separator (chunk (at - 1) n text)
           → count_ones (mask_l (map (top 7) (zip2 hit (zip2 bit_or ms (zip2 bit_and (zip2 bit_or ssb msb) (map none ss))) (replicate n 255))) % 2 ^ 64) ≡ starts_in text at n
@@ -186,5 +186,5 @@ module _ (none : ℕ → ℕ) (none_of_all : none 255 ≡ 0) (none_of_none : non
           ap count_ones
           (ap (λ (ls : List ℕ). mask_l (map (top 7) (zip2 hit ls (replicate n 255))) % 2 ^ 64) all
           ∙ bitmask_splat w8 eqb (map said_at ks) n 255 (length-map ks said_at ∙ length-range_with_len at n) few
-          ∙ ap mask_l (map-map (λ x. eqb x 255) said_at ks ∙ tells_all at n after))
+          ∙ ap mask_l (map-map (λ x. eqb x 255) said_at ks ∙ marks_all at n after))
           ∙ ones-mask_l (begins_at text) ks

@@ -10,7 +10,7 @@ use Rattle.roster_text.specs.declared.fault.WriteFault.{WriteFault}
 use Rattle.roster_text.specs.declared.fault.WriteFault.TheVariants.{WriteFailed}
 use Rattle.roster_text.specs.Io.{Watched, Writes, StopsAt, StopsIn, Stops, Sends, BreaksIn, one_more}
 
--- no text is written by no write
+-- the empty text is written by no write
 pub Writes-nil : {W : Type 0} (contents : W → Option (List ℕ)) (w : Watched W) → Writes contents w w []
 Writes-nil contents w = record { taken = Appends-nil (contents w.inner); flushes = refl; failures = refl }
 
@@ -23,7 +23,7 @@ Writes-append contents old mid new xs ys p q = record {
   failures = q.failures ∙ p.failures;
 }
 
--- stopped in xs, so also in a text that begins with it
+-- stopped in xs, and so in each text that begins with xs
 pub StopsAt-append : {W : Type 0} (contents : W → Option (List ℕ)) (old new : Watched W) (xs ys : List ℕ) (sent : ℕ) → StopsAt contents old new xs sent
     → StopsAt contents old new (xs ++ ys) sent
 StopsAt-append contents old new xs ys sent p =
@@ -47,7 +47,7 @@ StopsAt-after contents old mid new xs ys sent p q =
       failures = q.failures ∙ ap one_more p.failures;
     }
 
--- ---- the same where nothing is counted
+-- ---- without counts
 
 pub Stops-from_in : {W : Type 0} (contents : W → Option (List ℕ)) (old new : Watched W) (text : List ℕ) (fault : WriteFault) → StopsIn contents old new text fault → Stops contents old new text
 Stops-from_in contents old new text fault p = record { sent = p.sent; stops = p.stops }
@@ -101,7 +101,7 @@ StopsIn-from_breaks_in contents old new text fault p = record {
 
 -- ---- texts that are made piece by piece
 
--- the pieces up to m, the next piece, and those after it
+-- the pieces before m, piece m, and those after it
 pub flat_map-range_split : {A : Type 0} (f : ℕ → List A) (m n : ℕ) → m < n → flat_map f (range_with_len 0 n) ≡ (flat_map f (range_with_len 0 m) ++ f m) ++ flat_map f (range_with_len (m + 1) (n - (m + 1)))
 flat_map-range_split f m n h =
     let count : n ≡ (m + 1) + (n - (m + 1)) = omega arith in
@@ -109,21 +109,21 @@ flat_map-range_split f m n h =
     let next : range_with_len (0 + (m + 1)) (n - (m + 1)) ≡ range_with_len (m + 1) (n - (m + 1)) = ap (λ a. range_with_len a (n - (m + 1))) (zero-add (m + 1)) in
     ap (flat_map f) (split ∙ ap (λ l. range_with_len 0 (m + 1) ++ l) next) ∙ flat_map-append f _ _ ∙ ap (λ l. l ++ flat_map f (range_with_len (m + 1) (n - (m + 1)))) (flat_map-range_more f m)
 
--- the pieces of a list up to i, the next piece, and those after it
+-- the pieces of a list before i, piece i, and those after it
 pub flat_map-split : {X A : Type 0} (f : X → List A) (xs : List X) (i : ℕ) (d : X) → i < length xs
     → flat_map f xs ≡ (flat_map f (take i xs) ++ f (get_or xs i d)) ++ flat_map f (drop (i + 1) xs)
 flat_map-split f xs i d h =
     ap (flat_map f) (sym (take-append-drop i xs)) ∙ flat_map-append f (take i xs) (drop i xs) ∙ ap (λ l. flat_map f (take i xs) ++ flat_map f l) (drop_more xs i d h)
     ∙ sym (append_assoc (flat_map f (take i xs)) (f (get_or xs i d)) (flat_map f (drop (i + 1) xs)))
 
--- a text of pieces: those up to i were sent, and a write failed in the next
+-- a text of pieces: those before i were sent, and a write failed in piece i
 pub BreaksIn-flat_map : {W X : Type 0} (contents : W → Option (List ℕ)) (old mid new : Watched W) (before between : ℕ) (f : X → List ℕ) (xs : List X) (i : ℕ) (d : X) (fault : WriteFault)
     → i < length xs → Sends contents old mid before between (flat_map f (take i xs)) → BreaksIn contents mid new between (f (get_or xs i d)) fault
     → BreaksIn contents old new before (flat_map f xs) fault
 BreaksIn-flat_map contents old mid new before between f xs i d fault h p q =
     rw (flat_map-split f xs i d h) (BreaksIn-append contents old new before _ _ fault (BreaksIn-after contents old mid new before between _ _ fault p q))
 
--- the same after a front, where the pieces are numbered from 0
+-- the same after a first text, with the pieces numbered from 0
 pub BreaksIn-range : {W : Type 0} (contents : W → Option (List ℕ)) (old mid new : Watched W) (before between : ℕ) (front : List ℕ) (f : ℕ → List ℕ) (m n : ℕ) (fault : WriteFault)
     → m < n → Sends contents old mid before between (front ++ flat_map f (range_with_len 0 m)) → BreaksIn contents mid new between (f m) fault
     → BreaksIn contents old new before (front ++ flat_map f (range_with_len 0 n)) fault
@@ -134,14 +134,14 @@ BreaksIn-range contents old mid new before between front f m n fault h p q =
     ap (λ l. front ++ l) (flat_map-range_split f m n h) ∙ sym (append_assoc front (so_far ++ f m) rest) ∙ ap (λ l. l ++ rest) (sym (append_assoc front so_far (f m))) in
     rw split (BreaksIn-append contents old new before _ rest fault (BreaksIn-after contents old mid new before between _ _ fault p q))
 
--- one piece more
+-- one more piece
 pub Sends-range : {W : Type 0} (contents : W → Option (List ℕ)) (old mid new : Watched W) (before between after : ℕ) (front : List ℕ) (f : ℕ → List ℕ) (m : ℕ)
     → Sends contents old mid before between (front ++ flat_map f (range_with_len 0 m)) → Sends contents mid new between after (f m)
     → Sends contents old new before after (front ++ flat_map f (range_with_len 0 (m + 1)))
 Sends-range contents old mid new before between after front f m p q =
     rw (flat_map-range_more f m, ← append_assoc front (flat_map f (range_with_len 0 m)) (f m)) (Sends-append contents old mid new before between after _ _ p q)
 
--- one piece more, which is empty
+-- one more piece, which is empty
 pub Sends-range-nil : {W : Type 0} (contents : W → Option (List ℕ)) (old new : Watched W) (before after : ℕ) (front : List ℕ) (f : ℕ → List ℕ) (m : ℕ)
     → Sends contents old new before after (front ++ flat_map f (range_with_len 0 m)) → f m ≡ [] → Sends contents old new before after (front ++ flat_map f (range_with_len 0 (m + 1)))
 Sends-range-nil contents old new before after front f m p e = rw (flat_map-range_more f m, e, append-nil) p

@@ -1,4 +1,4 @@
--- What is true of a text's tokens.
+-- Properties of a text's tokens.
 use Rattle.std.proofs.Common.{◌≡◌, ℕ, zero, suc, ◌+◌, ◌-◌, ◌<◌, ◌≤◌, true, Option, Some, None, List, length, get_or, take, drop, refl, sym, subst, ◌∙◌, ap, arith, ⊎_elim, inl, inr, ◌⊎◌}
 use Rattle.std.proofs.lemmas.Bool.{cases_Bool, cases_lt, both_ways, and_parts, and_from, lt-ltb}
 use Rattle.std.proofs.lemmas.List.{get_or-drop, get_or-take, length-drop, length-take-le}
@@ -11,14 +11,14 @@ use Rattle.roster_text.proofs.TokenLemmas.{word_byte_from, token_at-mark, token_
 use Rattle.roster_bundle.specs.declared.token.Token.{Token}
 use Rattle.roster_bundle.specs.Token.{is_separator, is_mark, is_word_byte, is_word, follows_word_byte, line_at, token_at, tokens_from, tokens_of, text_of, IsWithin, IsMark, IsWholeWord, IsMarkOrWord, Covers, AreTokensOf}
 
--- the token that is a mark, and the token that is a word
+-- the token of a mark, and the token of a word
 abbrev mark_at : List ℕ → ℕ → Token
 mark_at text i = record { start = i; end = i + 1; line = line_at text i }
 
 abbrev word_at : List ℕ → ℕ → Token
 word_at text i = record { start = i; end = word_end_from text i; line = line_at text i }
 
--- a fact of each token that begins at a place is a fact of a mark and of a word
+-- what holds of a mark and of a word holds of each token that begins here
 IfSome-token_at : (P : Token → Type 0) (text : List ℕ) (i : ℕ) → (IsTrue (is_mark (get_or text i 0)) → P (mark_at text i)) → (IsTrue (is_word_byte (get_or text i 0)) → IsFalse (follows_word_byte text i) → P (word_at text i)) → IfSome (token_at text i) P
 IfSome-token_at P text i at_mark at_word =
     ⊎_elim
@@ -74,9 +74,9 @@ whole_word text i inside word first = record {
   none_after = stops_after is_word_byte text i;
 }
 
--- ---- their order
+-- ---- the order of tokens
 
--- after a token the next begins at its end or later
+-- the next token begins where this one ends, or later
 after_token : (text : List ℕ) (i : ℕ) → i < length text → IfSome (token_at text i) (λ t. (k : ℕ) → i < k → k < length text → IfSome (token_at text k) (λ u. t.end ≤ u.start))
 after_token text i inside = IfSome-token_at _ text i
     (λ mark k above below. IfSome-token_at _ text k (λ _. omega arith) (λ _ _. omega arith))
@@ -108,19 +108,19 @@ AllPairs-tokens_from text i (suc n) reach =
     (λ outside. subst (AllPairs InOrder) (sym (tokens_from-end text i outside)) (λ j k d below inside. absurd (omega arith)))
     (cases_lt i (length text))
 
--- ---- what is outside them
+-- ---- the bytes outside tokens
 
--- a token that begins at a place is among them
+-- a token that begins at a position is among the tokens
 Any-cons_option : (P : Token → Type 0) (o : Option Token) (ts : List Token) → Any P ts → Any P (cons_option o ts)
 Any-cons_option P None ts any = any
 Any-cons_option P (Some t) ts any = (suc any.0, any.1, omega (arith, any.2), any.3, any.4)
 
 Any-tokens_from : (P : Token → Type 0) (text : List ℕ) (i n s : ℕ) (t : Token) → i + n ≡ s → s < length text → token_at text s ≡ Some t → P t → Any P (tokens_from text i)
-Any-tokens_from P text i zero s t place inside is holds =
+Any-tokens_from P text i zero s t position inside is holds =
     let here : i ≡ s = omega arith in
     subst (Any P) (sym (tokens_from-more text i (omega arith) ∙ ap (λ o. cons_option o (tokens_from text (i + 1))) (ap (token_at text) here ∙ is)))
     (zero, t, omega arith, refl, holds)
-Any-tokens_from P text i (suc n) s t place inside is holds =
+Any-tokens_from P text i (suc n) s t position inside is holds =
     subst (Any P) (sym (tokens_from-more text i (omega arith)))
     (Any-cons_option P _ _ (Any-tokens_from P text (i + 1) n s t (omega arith) inside is holds))
 
@@ -161,7 +161,7 @@ separator_or_covered text k inside =
     (cases_Bool (is_mark (get_or text k 0)))))
     (cases_Bool (is_separator (get_or text k 0)))
 
--- ---- all of it
+-- ---- all of these together
 
 pub tokens_are : (text : List ℕ) → AreTokensOf text (tokens_of text)
 tokens_are text = record {

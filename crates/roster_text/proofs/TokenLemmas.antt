@@ -1,4 +1,4 @@
--- The tokens from a place on, as the place moves over separators, a mark or a word.
+-- The tokens from a position on, as the position moves over separators, a mark or a word.
 use Rattle.std.proofs.Common.{◌≡◌, ℕ, zero, suc, ◌+◌, ◌-◌, ◌<◌, ◌≤◌, Bool, true, false, Some, None, List, [], ◌∷◌, length, get_or, drop, refl, sym, subst, ◌∙◌, ap, arith, ⊎_elim}
 use Rattle.std.proofs.lemmas.Bool.{cases_Bool, both_ways, or_left, or_right, or_from, or_parts, and_from, and_right, not-true, not_from_true, not_from_false, lt-ltb, cond-true, cond-false}
 use Rattle.std.proofs.lemmas.List.{get_or-drop, length-drop}
@@ -8,7 +8,7 @@ use Rattle.std.specs.List.{cons_option, prefix_len}
 use Rattle.roster_text.proofs.TokenLines.{line_at-other, line_at-over}
 use Rattle.roster_bundle.specs.Token.{is_separator, is_mark, is_word_byte, follows_word_byte, begins_at, end_from, line_at, token_at, tokens_from, IsBetweenTokens}
 
--- ---- a byte is of one class
+-- ---- each byte is of one class
 
 pub is_mark-word_byte : (b : ℕ) → IsTrue (is_word_byte b) → IsFalse (is_mark b)
 unfolding is_word_byte
@@ -30,7 +30,7 @@ pub word_byte_from : (b : ℕ) → IsFalse (is_separator b) → IsFalse (is_mark
 unfolding is_word_byte
 word_byte_from b no_separator no_mark = not_from_false _ (or_from _ _ no_separator no_mark)
 
--- ---- what begins at a place
+-- ---- what begins at a position
 
 pub token_at-mark : (text : List ℕ) (i : ℕ) → IsTrue (is_mark (get_or text i 0)) → token_at text i ≡ Some (record { start = i; end = i + 1; line = line_at text i })
 unfolding token_at begins_at end_from
@@ -48,7 +48,7 @@ pub token_at-in_word : (text : List ℕ) (i : ℕ) → IsTrue (is_word_byte (get
 unfolding token_at begins_at end_from
 token_at-in_word text i word follows = rw (is_mark-word_byte _ word, word, follows) refl
 
--- ---- the tokens from a place on
+-- ---- the tokens from a position on
 
 pub tokens_from-more : (text : List ℕ) (i : ℕ) → i < length text → tokens_from text i ≡ cons_option (token_at text i) (tokens_from text (i + 1))
 unfolding tokens_from
@@ -62,7 +62,7 @@ tokens_from-end text i outside =
     let none_left : length text - i ≡ 0 = omega arith in
     rw none_left refl
 
--- over places where no token begins
+-- positions at which no token begins
 pub tokens_from-over : (text : List ℕ) (i n : ℕ) → i + n ≤ length text → ((k : ℕ) → i ≤ k → k < i + n → token_at text k ≡ None) → tokens_from text i ≡ tokens_from text (i + n)
 tokens_from-over text i zero inside none = ap (tokens_from text) (omega arith)
 tokens_from-over text i (suc n) inside none =
@@ -72,11 +72,11 @@ tokens_from-over text i (suc n) inside none =
     ∙ ap (λ t. cons_option t (tokens_from text (i + n + 1))) (none (i + n) (omega arith) (omega arith))
     ∙ ap (tokens_from text) next
 
--- what a front of bytes says by place
+-- what is known of a prefix of bytes, by position
 pub passes_from : (p : ℕ → Bool) (text : List ℕ) (i k : ℕ) → i ≤ k → k < i + prefix_len p (drop i text) → p (get_or text k 0) ≡ true
 passes_from p text i k low high =
-    let place : i + (k - i) ≡ k = omega arith in
-    ap p (sym (get_or-drop i text (k - i) 0 ∙ ap (λ j. get_or text j 0) place)) ∙ prefix_len_passes p (drop i text) (k - i) 0 (omega arith)
+    let position : i + (k - i) ≡ k = omega arith in
+    ap p (sym (get_or-drop i text (k - i) 0 ∙ ap (λ j. get_or text j 0) position)) ∙ prefix_len_passes p (drop i text) (k - i) 0 (omega arith)
 
 pub stops_after : (p : ℕ → Bool) (text : List ℕ) (i : ℕ) → i + prefix_len p (drop i text) < length text → p (get_or text (i + prefix_len p (drop i text)) 0) ≡ false
 stops_after p text i inside =
@@ -85,15 +85,15 @@ stops_after p text i inside =
 pub front_within : (p : ℕ → Bool) (text : List ℕ) (i : ℕ) → i ≤ length text → i + prefix_len p (drop i text) ≤ length text
 front_within p text i inside = omega (arith, prefix_len-le-length p (drop i text), length-drop i text)
 
--- a place within a word, after its first
+-- a position within a word, after its first byte
 pub follows-in_word : (text : List ℕ) (i k : ℕ) → i < k → k ≤ i + prefix_len is_word_byte (drop i text) → IsTrue (follows_word_byte text k)
 unfolding follows_word_byte
 follows-in_word text i k low high =
     and_from _ _ (lt-ltb 0 k (omega arith)) (passes_from is_word_byte text i (k - 1) (omega arith) (omega arith))
 
--- ---- over separators, a mark, a word
+-- ---- separators, a mark, a word
 
--- no word goes on over a place after a byte that is none of a word's
+-- no word extends across a position after a byte that isn't a word byte
 pub IsBetweenTokens-after : (text : List ℕ) (i j : ℕ) → j ≡ i + 1 → IsFalse (is_word_byte (get_or text i 0)) → IsBetweenTokens text j
 unfolding follows_word_byte
 IsBetweenTokens-after text i j next other inside word =
@@ -121,7 +121,7 @@ pub tokens_from-mark : (text : List ℕ) (i : ℕ) → i < length text → IsTru
 tokens_from-mark text i inside mark =
     tokens_from-more text i inside ∙ ap (λ t. cons_option t (tokens_from text (i + 1))) (token_at-mark text i mark)
 
--- the place of the word's end
+-- the position at which the word ends
 abbrev pub word_end_from : List ℕ → ℕ → ℕ
 word_end_from text i = i + prefix_len is_word_byte (drop i text)
 
@@ -140,9 +140,9 @@ tokens_from-word text i inside word between =
     ∙ ap (λ ts. record { start = i; end = word_end_from text i; line = line_at text i } ∷ ts)
     (tokens_from-over text (i + 1) n (omega (arith, front_within is_word_byte text (i + 1) (omega arith))) in_word ∙ ap (tokens_from text) (sym more))
 
--- ---- the two steps to the next token
+-- ---- the two searches for the next token
 
--- the next token from `at` on begins at `start`, or none is left there
+-- the next token from `at` on begins at `start`, or no token is left from there on
 pub record IsNextStart (text : List ℕ) (at start : ℕ) : Type 0 where
   pub within : start ≤ length text
   pub same : tokens_from text at ≡ tokens_from text start
@@ -150,7 +150,7 @@ pub record IsNextStart (text : List ℕ) (at start : ℕ) : Type 0 where
   pub stands : start < length text → IsFalse (is_separator (get_or text start 0))
 
 pub next_start_is : (text : List ℕ) (at start : ℕ) → at ≤ length text → IsBetweenTokens text at → start ≡ at + prefix_len is_separator (drop at text) → IsNextStart text at start
-next_start_is text at start inside between place = subst (IsNextStart text at) (sym place) (record {
+next_start_is text at start inside between position = subst (IsNextStart text at) (sym position) (record {
   within = front_within is_separator text at inside;
   same = tokens_from-separators text at inside;
   between = IsBetweenTokens-separators text at _ refl between;
@@ -165,7 +165,7 @@ pub record IsNextEnd (text : List ℕ) (start end : ℕ) : Type 0 where
   pub between : IsBetweenTokens text end
   pub same_line : line_at text end ≡ line_at text start
 
--- no mark and no word byte is an LF
+-- a mark is no LF, nor is a word byte
 is_mark-feed : (b : ℕ) → IsTrue (is_mark b) → b ≡ 10 → ⊥
 unfolding is_mark
 is_mark-feed b mark feed = grind arith
@@ -194,8 +194,8 @@ word_end_is text start inside word between = record {
 
 pub next_end_is : (text : List ℕ) (start end : ℕ) → start < length text → IsBetweenTokens text start → IsFalse (is_separator (get_or text start 0)) → end ≡ end_from text start → IsNextEnd text start end
 unfolding end_from
-next_end_is text start end inside between stands place =
+next_end_is text start end inside between stands position =
     ⊎_elim
-    (λ mark. subst (IsNextEnd text start) (sym (place ∙ cond-true _ _ _ mark)) (mark_end_is text start inside mark))
-    (λ no_mark. subst (IsNextEnd text start) (sym (place ∙ cond-false _ _ _ no_mark)) (word_end_is text start inside (word_byte_from _ stands no_mark) between))
+    (λ mark. subst (IsNextEnd text start) (sym (position ∙ cond-true _ _ _ mark)) (mark_end_is text start inside mark))
+    (λ no_mark. subst (IsNextEnd text start) (sym (position ∙ cond-false _ _ _ no_mark)) (word_end_is text start inside (word_byte_from _ stands no_mark) between))
     (cases_Bool (is_mark (get_or text start 0)))

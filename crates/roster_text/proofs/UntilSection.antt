@@ -16,11 +16,11 @@ use Rattle.roster_bundle.specs.Token.{Seen, is_mark}
 use Rattle.roster_text.specs.Words.{keyword_text}
 use Rattle.roster_text.specs.Grammar.{Pattern, fixed, name, Fits, Spelled, label, is_name, lines_until}
 use Rattle.roster_text.specs.Reading.{Read, ◌>>=◌, begins_section, until_with, until_at}
-use Rattle.roster_text.proofs.Spelling.{spelled_append, parted, cut}
+use Rattle.roster_text.proofs.Spelling.{spelled_append, divided, cut}
 use Rattle.roster_text.proofs.Readers.{Reader, Stops, Example, Takes, nothing_due, same_value, same_rest}
 use Rattle.roster_text.proofs.Several.{every}
 
--- A line begins with a name, and after it something is due that is no `=`.
+-- A line begins with a name, and what is due after it isn't `=`.
 pub record Start (second : What) (ps : List Pattern) : Type 0 where
   pub lead : Token
   pub next : Pattern
@@ -66,7 +66,7 @@ pub no_equals_name : (n : Token) (t : Seen) → Fits (name n) t → t.text ≡ c
 unfolding is_mark
 no_equals_name n t f e = let mark : is_name (codes "=") ≡ true = sym (ap is_name e) ∙ f.0 in let no : false ≡ true = mark in cc
 
--- ---- where a section begins
+-- ---- the beginning of a section
 
 -- the two tokens, and what is after them
 record Begun (k : Keyword) (ts : List Seen) : Type 0 where
@@ -107,7 +107,7 @@ err_of x = Err x
 module _ {A : Type 0} (pat : A → List Pattern) (read : List Seen → Read A) (item : Reader every pat read) (k : Keyword) (second : What) (lines : Lines pat second) where
   -- ---- a line's first two tokens
 
-  -- what is spelled by a line begins no section, whatever follows
+  -- a line begins no section, whatever follows
   record Two (front : List Seen) : Type 0 where
     one : Seen
     two : Seen
@@ -246,7 +246,7 @@ module _ {A : Type 0} (pat : A → List Pattern) (read : List Seen → Read A) (
   until_whole [] (t ∷ u ∷ []) rest s = until_end (t ∷ u ∷ rest) (begins k t u rest s.0 s.1.0)
   until_whole [] (t ∷ u ∷ v ∷ us) rest s = absurd s.1.1
   until_whole (a ∷ xs) front rest s =
-      let p = parted (pat a) (all xs) front (subst (λ (ps : List Pattern). Spelled ps front) (all_cons a xs) s) in
+      let p = divided (pat a) (all xs) front (subst (λ (ps : List Pattern). Spelled ps front) (all_cons a xs) s) in
       let e : front ++ rest ≡ p.front ++ (p.back ++ rest) = ap (λ (us : List Seen). us ++ rest) p.split ∙ append_assoc p.front p.back rest in
       let w = item.whole a p.front (p.back ++ rest) tt p.first in
       let others = until_whole xs p.back rest p.second in
@@ -261,9 +261,9 @@ module _ {A : Type 0} (pat : A → List Pattern) (read : List Seen → Read A) (
   until_some : Example every all
   until_some = record { value = []; tokens = closing; valid = tt; spelled = (refl, (refl, tt)) }
 
-  -- ---- where it stops
+  -- ---- where reading stops
 
-  -- a token that is refused in a line's first place is no keyword
+  -- a token that is refused as a line's first is no keyword
   refused_first : (t : Seen) (r : Refusal) → ((other : List Seen) → read (t ∷ other) ≡ Err (r, t ∷ other)) → t.text ≡ keyword_text k → ⊥
   refused_first t r stopped e =
       let x = lines.any t.token in
@@ -274,7 +274,7 @@ module _ {A : Type 0} (pat : A → List Pattern) (read : List Seen → Read A) (
       let both : ok_of (x.value, []) ≡ err_of (r, t ∷ x.more) = sym w ∙ stopped x.more in
       let bad : ⊥ = cc in bad
 
-  -- no section begins there either, whatever stands after the refused token
+  -- no section begins there either, whatever follows the refused token
   still_none : (front : List Seen) (t : Seen) (us other : List Seen) (r : Refusal) → begins_section k (front ++ t ∷ us) ≡ false → ((other : List Seen) → read (front ++ t ∷ other) ≡ Err (r, t ∷ other)) → begins_section k (front ++ t ∷ other) ≡ false
   still_none [] t us other r b stopped = no_keyword_no_section k t other (refused_first t r stopped)
   still_none (u ∷ []) t us other r b stopped = b
@@ -343,9 +343,9 @@ module _ {A : Type 0} (pat : A → List Pattern) (read : List Seen → Read A) (
             ]
       ]
 
-  -- ---- a front that lacks something
+  -- ---- tokens that end within a line
 
-  -- nothing at all, or a name alone, stops where a line's next token is due
+  -- no token, or a name alone, stops where a line's next token is due
   empty_stops : until [] ≡ Err (Due what.Name, [])
   empty_stops =
       let x = item.some in
@@ -360,7 +360,7 @@ module _ {A : Type 0} (pat : A → List Pattern) (read : List Seen → Read A) (
       let stopped = item.ends x.value (name x.start.lead ∷ []) x.start.rest x.start.next (t ∷ []) x.more tt x.start.is ((is_a_name, sym x.lead), tt) x.spelled in
       until_refused (t ∷ []) (Due second, []) refl (stopped ∙ ap (λ (w : What). err_of (Due w, [])) x.start.labelled)
 
-  -- a front of a line begins no section
+  -- the first tokens of a line begin no section
   front_begins_none : (a : A) (done rest : List Pattern) (p : Pattern) (front : List Seen) → pat a ≡ done ++ p ∷ rest → Spelled done front → begins_section k front ≡ false
   front_begins_none a done rest p [] e s = refl
   front_begins_none a done rest p (t ∷ []) e s = refl
@@ -391,12 +391,12 @@ module _ {A : Type 0} (pat : A → List Pattern) (read : List Seen → Read A) (
       elim (cut (pat a) (all xs) done due p (sym (all_cons a xs) ∙ e)) [
         | inl c ↦
             let m' : Spelled ((p ∷ c.rest) ++ all xs) more = subst (λ (ps : List Pattern). Spelled (p ∷ ps) more) c.after m in
-            let q = parted (p ∷ c.rest) (all xs) more m' in
-            until_refused front (Due (label p), []) (front_begins_none a done c.rest p front c.place s) (item.ends a done c.rest p front q.front tt c.place s q.first)
+            let q = divided (p ∷ c.rest) (all xs) more m' in
+            until_refused front (Due (label p), []) (front_begins_none a done c.rest p front c.position s) (item.ends a done c.rest p front q.front tt c.position s q.first)
         | inr c ↦
-            let q = parted (pat a) c.before front (subst (λ (ps : List Pattern). Spelled ps front) c.passed s) in
+            let q = divided (pat a) c.before front (subst (λ (ps : List Pattern). Spelled ps front) c.passed s) in
             let w = item.whole a q.front q.back tt q.first in
-            let others = until_ends xs c.before due p q.back more c.place q.second m in
+            let others = until_ends xs c.before due p q.back more c.position q.second m in
             ap until q.split ∙ until_line (q.front ++ q.back) q.back a (line_begins_none a q.front q.back q.first) w ∙ ap (with_first a) others
       ]
 

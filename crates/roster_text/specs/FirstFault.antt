@@ -1,4 +1,5 @@
--- The fault of a list of tokens that spells no bundle: the first token, or the end, at which it no longer goes on.
+-- The fault of a list of tokens that spells no bundle: it is at the first token, or the end, where no bundle
+-- can go on.
 use Rattle.std.specs.Prelude.{◌≡◌, ℕ, Bool, true, false, ◌&&◌, List, [], ◌∷◌, ◌++◌, if◌then◌else◌}
 use Rattle.roster_bundle.specs.declared.bundle.Bundle.{Bundle}
 use Rattle.roster_text.specs.declared.fault.TextFault.{TextFault}
@@ -8,14 +9,14 @@ use Rattle.roster_text.specs.declared.fault.What.TheVariants as what
 use Rattle.roster_bundle.specs.Token.{Seen}
 use Rattle.roster_text.specs.Grammar.{Pattern, Spelled, Spells, label, bundle, is_number}
 
--- a list that begins with these tokens spells a bundle
+-- some list that begins with these tokens spells a bundle
 pub record GoesOn (ts : List Seen) : Type 0 where
   pub more : List Seen
   pub value : Bundle
   pub spells : Spells (ts ++ more) value
 
--- These patterns are due after the tokens `front`: more tokens complete it to a bundle whose patterns are those
--- that the front fits, and then these.
+-- These patterns are due after the tokens `front`: some bundle has the patterns that the front fits, followed
+-- by exactly these.
 pub record AreDue (front : List Seen) (due : List Pattern) : Type 0 where
   pub more : List Seen
   pub value : Bundle
@@ -25,18 +26,19 @@ pub record AreDue (front : List Seen) (due : List Pattern) : Type 0 where
   pub front_fits : Spelled passed front
   pub more_fits : Spelled due more
 
--- with the next token the list no longer goes on, or it ends without spelling a bundle
+-- no list that begins with these tokens and the next one spells a bundle; or the list ends, and spells none
+-- itself
 abbrev pub StopsBefore : List Seen → List Seen → Type 0
 StopsBefore front [] = (b : Bundle) → Spells front b → ⊥
 StopsBefore front (t ∷ ts) = GoesOn (front ++ t ∷ []) → ⊥
 
--- where a number is due
+-- a number is due here
 abbrev pub wants_number : What → Bool
 wants_number what.Number = true
 wants_number _ = false
 
--- The fault at the tokens `rest` where these patterns are due; `end` is the line of the end. Digits alone where a
--- number is due are a number out of range.
+-- The fault at the tokens `rest` if these patterns are due; `end` is the line of the end. Digits alone are a
+-- number out of range if a number is due.
 abbrev pub fault_at : ℕ → List Pattern → List Seen → TextFault
 fault_at end [] [] = AfterEnd end
 fault_at end [] (t ∷ ts) = AfterEnd t.token.line

@@ -3,7 +3,7 @@ use Rattle.std.specs.Prelude.{ℕ, List, decimal, flat_map}
 use Rattle.roster_text.specs.declared.pieces.Piece.{Piece}
 use Rattle.roster_text.specs.declared.pieces.Piece.TheVariants.{Bytes, Count, Number}
 
--- bytes as they are, or a number in decimal
+-- the bytes themselves, or a number in decimal
 abbrev pub piece_text : Piece → List ℕ
 piece_text (Bytes bytes) = bytes.now
 piece_text (Number n) = decimal n

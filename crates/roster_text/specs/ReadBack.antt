@@ -1,4 +1,4 @@
--- A solution that is written and read: what it takes, and what is read then.
+-- When a solution that is written can be read again, and what is read then.
 use Rattle.std.specs.Prelude.{◌≡◌, ℕ, ◌≤◌, IsTrue, List, All, length, map}
 use Rattle.roster_bundle.specs.declared.bundle.Assignment.{Assignment}
 use Rattle.roster_bundle.specs.declared.bundle.Solution.{Solution}
@@ -9,25 +9,26 @@ use Rattle.roster_text.specs.Grammar.{Spelled, solution}
 use Rattle.roster_bundle.specs.Token.{all_seen, is_word, text_of, tokens_of}
 use Rattle.roster_bundle.specs.Limits.{most_counted, most_small}
 
--- each name of an assignment is a word
+-- each name in an assignment is a word
 pub record HasWords (a : ShownAssignment) : Type 0 where
   pub nurse : IsTrue (is_word a.nurse)
   pub shift : IsTrue (is_word a.shift)
   pub skill : IsTrue (is_word a.skill)
 
--- names that are words, and numbers that are in range
+-- the names are words, and the numbers are in range
 pub record IsWritable (s : Shown) : Type 0 where
   pub week : s.week ≤ most_small
   pub name : IsTrue (is_word s.name)
   pub words : All HasWords (assignments s)
   pub count : length (assignments s) ≤ most_counted
 
--- what an assignment says, by the texts of its names in the source
+-- what an assignment says, with the texts of its names in the source
 abbrev pub said : List ℕ → Assignment → ShownAssignment
-said source a = assignment (text_of source a.nurse) (weekday a.day) (text_of source a.shift) (text_of source a.skill)
+said source a =
+    assignment (text_of source a.nurse) (weekday a.day) (text_of source a.shift) (text_of source a.skill)
 
--- the solution, its names being tokens of the source, says what is shown: the same week, the same scenario, and
--- the same assignments in the same order
+-- the solution, whose names are tokens of the source, says what is shown: the same week, the same scenario,
+-- and the same assignments in the same order
 pub record Says (source : List ℕ) (v : Solution) (s : Shown) : Type 0 where
   pub week : v.week.value ≡ s.week
   pub scenario : text_of source v.scenario ≡ s.name
@@ -37,5 +38,6 @@ pub record Says (source : List ℕ) (v : Solution) (s : Shown) : Type 0 where
 pub record IsReadBack (s : Shown) : Type 0 where
   pub value : Solution
   pub spelled : Spelled (solution value) (all_seen (canonical s) (tokens_of (canonical s)))
-  pub only : (v : Solution) → Spelled (solution v) (all_seen (canonical s) (tokens_of (canonical s))) → v ≡ value
+  pub only : (v : Solution)
+      → Spelled (solution v) (all_seen (canonical s) (tokens_of (canonical s))) → v ≡ value
   pub says : Says (canonical s) value s

@@ -1,4 +1,5 @@
--- Reading from left to right: the value of a part and the tokens after it, or why and where it stops.
+-- Reading from left to right: the value that was read and the tokens after it, or why and where reading
+-- stops.
 use Rattle.std.specs.Prelude.{◌≡◌, ℕ, zero, suc, Bool, false, ◌&&◌, ◌||◌, List, [], ◌∷◌, length, drop, codes, Option, Some, None, Result, Ok, Err, nat_le, if◌then◌else◌}
 use Rattle.std.specs.List.{find}
 use Rattle.std.specs.Str.{bytes_eq}
@@ -40,7 +41,8 @@ use Rattle.roster_text.specs.Grammar.{is_name, is_number}
 use Rattle.roster_bundle.specs.Weekdays.{short, long}
 use Rattle.roster_bundle.specs.Limits.{most_counted, most_small}
 
--- What reading gives: a value and the tokens that are left, or the refusal and the tokens from the refused one on.
+-- What reading gives: a value and the tokens that are left, or the refusal and the tokens from the refused
+-- one on.
 abbrev pub Read : Type 0 → Type 0
 Read A = Result (A × List Seen) (Refusal × List Seen)
 
@@ -49,7 +51,7 @@ abbrev pub ◌>>=◌ : {A B : Type 0} → Read A → (A × List Seen → Read B)
 (Ok x) >>= f = f x
 (Err e) >>= f = Err e
 
--- What a function returned, and what it left, is what reading gives, unless memory ran out.
+-- What a function returned and left is what reading gives, unless memory ran out.
 abbrev pub Reads : {A : Type 0} → Result A Stop → List Seen → Read A → Type 0
 Reads (Ok x) left read = read ≡ Ok (x, left)
 Reads (Err stop.Memory) left read = Unit {0}
@@ -76,10 +78,11 @@ abbrev pub number_at : ℕ → List Seen → Read Number
 number_at limit [] = Err (Due what.Number, [])
 number_at limit (t ∷ ts) =
     if is_number t.text
-    then (if nat_le (digits_value 10 t.text) limit then Ok (record { token = t.token; value = digits_value 10 t.text }, ts) else Err (OutOfRange, t ∷ ts))
+    then (if nat_le (digits_value 10 t.text) limit then Ok
+    (record { token = t.token; value = digits_value 10 t.text }, ts) else Err (OutOfRange, t ∷ ts))
     else Err (Due what.Number, t ∷ ts)
 
--- the value alone
+-- the value of a number, without its token
 abbrev pub value_at : ℕ → List Seen → Read ℕ
 value_at limit ts = do
   n ← number_at limit ts
@@ -90,12 +93,14 @@ small_at ts = value_at most_small ts
 
 -- the days from Monday on
 abbrev pub all_days : List Day
-all_days = days.Monday ∷ days.Tuesday ∷ days.Wednesday ∷ days.Thursday ∷ days.Friday ∷ days.Saturday ∷ days.Sunday ∷ []
+all_days =
+    days.Monday ∷ days.Tuesday ∷ days.Wednesday ∷ days.Thursday ∷ days.Friday ∷ days.Saturday
+    ∷ days.Sunday ∷ []
 
 abbrev pub is_day : List ℕ → Day → Bool
 is_day text d = bytes_eq text (short d) || bytes_eq text (long d)
 
--- the day of either spelling
+-- the day that a text names, in either spelling
 abbrev pub day_of : List ℕ → Option Day
 day_of text = find (is_day text) all_days
 
@@ -109,7 +114,7 @@ day_at (t ∷ ts) = day_or_stop (day_of t.text) t ts
 
 -- ---- several of a kind
 
--- so many, one after the other
+-- n items, one after the other
 unfoldable pub times_at : {A : Type 0} → (List Seen → Read A) → ℕ → List Seen → Read (List A)
 times_at read zero ts = Ok ([], ts)
 times_at read (suc n) ts = do
@@ -117,14 +122,14 @@ times_at read (suc n) ts = do
   others ← times_at read n first.1
   Ok (first.0 ∷ others.0, others.1)
 
--- a count, and that many
+-- a count, and as many items
 unfoldable pub listed_at : {A : Type 0} → (List Seen → Read A) → List Seen → Read (Listed A)
 listed_at read ts = do
   n ← number_at most_counted ts
   xs ← times_at read n.0.value n.1
   Ok (record { count = n.0.token; items = xs.0 }, xs.1)
 
--- a keyword, `=`, a count, and that many
+-- a keyword, `=`, a count, and as many items
 unfoldable pub section_at : {A : Type 0} → Keyword → (List Seen → Read A) → List Seen → Read (Listed A)
 section_at k read ts = do
   a ← key_at k ts
@@ -136,8 +141,9 @@ abbrev pub begins_with : Keyword → List Seen → Bool
 begins_with k [] = false
 begins_with k (t ∷ ts) = bytes_eq t.text (keyword_text k)
 
--- a section, where its keyword stands
-unfoldable pub optional_at : {A : Type 0} → Keyword → (List Seen → Read A) → List Seen → Read (Option (Listed A))
+-- a section, if its keyword is next
+unfoldable pub optional_at : {A : Type 0} → Keyword → (List Seen → Read A) → List Seen
+    → Read (Option (Listed A))
 optional_at k read ts =
     if begins_with k ts then (do
       xs ← section_at k read ts
@@ -155,7 +161,7 @@ begins_section k [] = false
 begins_section k (t ∷ []) = false
 begins_section k (t ∷ u ∷ ts) = bytes_eq t.text (keyword_text k) && bytes_eq u.text (codes "=")
 
--- lines up to the keyword and `=` of the next section, at most so many
+-- lines up to the keyword and `=` of the next section, at most the given number
 unfoldable pub until_with : {A : Type 0} → (List Seen → Read A) → Keyword → ℕ → List Seen → Read (List A)
 until_with read k zero ts = Err (Due what.Name, ts)
 until_with read k (suc n) ts =
@@ -164,7 +170,7 @@ until_with read k (suc n) ts =
       others ← until_with read k n first.1
       Ok (first.0 ∷ others.0, others.1))
 
--- a line takes a token at least, so there are at most as many lines as tokens
+-- each line takes at least one token, so there are at most as many lines as tokens
 abbrev pub until_at : {A : Type 0} → (List Seen → Read A) → Keyword → List Seen → Read (List A)
 until_at read k ts = until_with read k (suc (length ts)) ts
 
@@ -199,7 +205,17 @@ contract_at ts = do
   free ← pair_at working.1
   weekends ← small_at free.1
   flag ← value_at 1 weekends.1
-  Ok (record { name = name.0; total = total.0; working = working.0; free = free.0; weekends = weekends.0; complete_weekends = flag.0 }, flag.1)
+  Ok (
+    record {
+      name = name.0;
+      total = total.0;
+      working = working.0;
+      free = free.0;
+      weekends = weekends.0;
+      complete_weekends = flag.0;
+    },
+    flag.1,
+  )
 
 unfoldable pub nurse_at : List Seen → Read Nurse
 nurse_at ts = do
@@ -228,7 +244,18 @@ scenario_at ts = do
   successions ← until_at succession_at keyword.Contracts a.1
   contracts ← listed_at contract_at successions.1
   nurses ← section_at keyword.Nurses nurse_at contracts.1
-  Ok (record { name = title.0.0; weeks = title.0.1; skills = skills.0; shifts = shifts.0; successions = successions.0; contracts = contracts.0; nurses = nurses.0 }, nurses.1)
+  Ok (
+    record {
+      name = title.0.0;
+      weeks = title.0.1;
+      skills = skills.0;
+      shifts = shifts.0;
+      successions = successions.0;
+      contracts = contracts.0;
+      nurses = nurses.0;
+    },
+    nurses.1,
+  )
 
 -- ---- the history
 
@@ -241,9 +268,20 @@ nurse_history_at ts = do
   shift_run ← small_at last.1
   working_run ← small_at shift_run.1
   free_run ← small_at working_run.1
-  Ok (record { nurse = nurse.0; assignments = assignments.0; weekends = weekends.0; last_shift = last.0; shift_run = shift_run.0; working_run = working_run.0; free_run = free_run.0 }, free_run.1)
+  Ok (
+    record {
+      nurse = nurse.0;
+      assignments = assignments.0;
+      weekends = weekends.0;
+      last_shift = last.0;
+      shift_run = shift_run.0;
+      working_run = working_run.0;
+      free_run = free_run.0;
+    },
+    free_run.1,
+  )
 
--- with so many lines
+-- the history, with the given number of lines
 unfoldable pub history_at : ℕ → List Seen → Read History
 history_at lines ts = do
   a ← key_at keyword.History ts
@@ -264,7 +302,18 @@ week_pairs_at ts = do
   friday ← pair_at thursday.1
   saturday ← pair_at friday.1
   sunday ← pair_at saturday.1
-  Ok (record { monday = monday.0; tuesday = tuesday.0; wednesday = wednesday.0; thursday = thursday.0; friday = friday.0; saturday = saturday.0; sunday = sunday.0 }, sunday.1)
+  Ok (
+    record {
+      monday = monday.0;
+      tuesday = tuesday.0;
+      wednesday = wednesday.0;
+      thursday = thursday.0;
+      friday = friday.0;
+      saturday = saturday.0;
+      sunday = sunday.0;
+    },
+    sunday.1,
+  )
 
 unfoldable pub requirement_at : List Seen → Read Requirement
 requirement_at ts = do
@@ -296,7 +345,17 @@ week_data_at ts = do
   on ← optional_at keyword.ShiftOnRequests request_at off.1
   absences ← optional_at keyword.Absences nurse_day_at on.1
   fixed_days ← optional_at keyword.Fixed nurse_day_at absences.1
-  Ok (record { scenario = scenario.0; requirements = requirements.0; off_requests = off.0; on_requests = on.0; absences = absences.0; fixed_days = fixed_days.0 }, fixed_days.1)
+  Ok (
+    record {
+      scenario = scenario.0;
+      requirements = requirements.0;
+      off_requests = off.0;
+      on_requests = on.0;
+      absences = absences.0;
+      fixed_days = fixed_days.0;
+    },
+    fixed_days.1,
+  )
 
 -- ---- the solutions
 
@@ -318,16 +377,19 @@ solution_at ts = do
 
 -- ---- the bundle
 
--- as far as the last solution
+-- all four texts, up to the last solution
 unfoldable pub bundle_at : List Seen → Read Bundle
 bundle_at ts = do
   scenario ← scenario_at ts
   history ← history_at (length scenario.0.nurses.items) scenario.1
   weeks ← times_at week_data_at scenario.0.weeks.value history.1
   solutions ← times_at solution_at scenario.0.weeks.value weeks.1
-  Ok (record { scenario = scenario.0; history = history.0; week_data = weeks.0; solutions = solutions.0 }, solutions.1)
+  Ok (
+    record { scenario = scenario.0; history = history.0; week_data = weeks.0; solutions = solutions.0 },
+    solutions.1,
+  )
 
--- ---- the whole of the tokens
+-- ---- all of the tokens
 
 -- the line of the first of these tokens, or of the end
 abbrev pub line_of_first : ℕ → List Seen → ℕ
@@ -338,17 +400,17 @@ abbrev pub fault_of : Refusal → ℕ → TextFault
 fault_of (Due w) at = fault.Expected at w
 fault_of OutOfRange at = fault.NumberRange at
 
--- a bundle, and no token after it; `end` is the line of the end
+-- a bundle, if no token is left after it; `end` is the line of the end
 abbrev pub ended : ℕ → Bundle → List Seen → Result Bundle TextFault
 ended end b [] = Ok b
 ended end b (t ∷ ts) = Err (fault.AfterEnd t.token.line)
 
--- a bundle and no token after it, or the first fault
+-- a bundle with no token after it, or the first fault
 abbrev pub whole_of : ℕ → Read Bundle → Result Bundle TextFault
 whole_of end (Ok x) = ended end x.0 x.1
 whole_of end (Err stopped) = Err (fault_of stopped.0 (line_of_first end stopped.1))
 
--- what a function returned is this, unless memory ran out
+-- a function returned this result, unless memory ran out
 abbrev pub GivesUnlessMemory : Result Bundle TextFault → Result Bundle TextFault → Type 0
 GivesUnlessMemory (Err fault.Memory) read = Unit {0}
 GivesUnlessMemory r read = r ≡ read

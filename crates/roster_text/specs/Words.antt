@@ -25,7 +25,7 @@ keyword_text keyword.Fixed = codes "FIXED"
 keyword_text keyword.Solution = codes "SOLUTION"
 keyword_text keyword.Assignments = codes "ASSIGNMENTS"
 
--- the word of a fault's line for what was due
+-- the word in a fault line for what was due
 abbrev pub what_text : What → List ℕ
 what_text (what.Keyword k) = keyword_text k
 what_text what.Equals = codes "="

@@ -6,7 +6,7 @@ use std::alloc::{AllocError, AllocFailed};
 use std::fmt;
 use thiserror::Error;
 
-/// A word that begins a part of the four texts.
+/// A word that begins a section of the four texts.
 #[derive(Clone, Copy, Debug)]
 pub enum Keyword {
     Scenario,
@@ -31,7 +31,7 @@ pub enum Keyword {
 impl Keyword {
     ghost use Rattle.roster_text.specs.Words.{keyword_text};
 
-    /// The word as it stands in a text.
+    /// The word as it is written in a text.
     pub fn text(self) -> &'static str
         ensures { result.now ≡ keyword_text self }
     {
@@ -57,7 +57,7 @@ impl Keyword {
     }
 }
 
-/// What is due at a place of the grammar.
+/// What the grammar expects next.
 #[derive(Clone, Copy, Debug)]
 pub enum What {
     Keyword(Keyword),
@@ -73,7 +73,7 @@ pub enum What {
 impl What {
     ghost use Rattle.roster_text.specs.Words.{what_text};
 
-    /// The word for it in a fault's line.
+    /// The word for it in a fault line.
     pub fn text(self) -> &'static str
         ensures { result.now ≡ what_text self }
     {
@@ -104,7 +104,7 @@ impl fmt::Display for What {
 /// Why a text was not read. A line counts from 1.
 #[derive(Clone, Copy, Debug, Error)]
 pub enum TextFault {
-    /// A growth was refused.
+    /// An allocation was refused.
     #[error("no memory")]
     Memory,
     /// A read failed.
@@ -113,10 +113,10 @@ pub enum TextFault {
     /// More than 16,777,216 bytes came.
     #[error("input longer than 16777216 bytes")]
     TooLong,
-    /// Another token stands here, or the end, than the grammar wants at this place.
+    /// The grammar expects something else than this token, or than the end.
     #[error("line {line}: expected {what}")]
     Expected { line: usize, what: What },
-    /// A number is above the range of its place.
+    /// A number is out of its range.
     #[error("line {line}: number out of range")]
     NumberRange { line: usize },
     /// Tokens follow the last solution.
@@ -144,7 +144,8 @@ impl<T: Drop> From<AllocFailed<T>> for TextFault {
     }
 }
 
-/// A writer failed after it had taken the first `sent` bytes of the text. A write that takes nothing counts as failing.
+/// A writer failed after it had taken the first `sent` bytes of the text. A write that takes nothing counts
+/// as failing.
 #[derive(Clone, Copy, Debug, PartialEq, Eq, Error)]
 pub enum WriteFault {
     #[error("write failed after {sent} bytes")]

@@ -1,11 +1,13 @@
 //! The four texts of an instance: bytes, tokens, grammar, and the canonical text of a solution.
 //!
-//! The grammar is defined in `specs/Grammar.antt`, what is read from left to right in `specs/Reading.antt`, where tokens fail that spell no
-//! bundle in `specs/FirstFault.antt`, and texts of bytes and numbers in `specs/Pieces.antt`. `reading` has all bytes of a reader, `token`
-//! and `starts` their tokens. `parser` reads one token, so many, or lines up to the next section, and `parts` the parts of a bundle by it.
-//! `parse_bundle` promises the one bundle that the tokens spell, or the first fault (`fault`). `pieces` and `writing` write texts, or say
-//! how much of them was sent; `written_is_read` that a solution which was written is read again. All goes through a `Watch`, which counts
-//! the calls that fail (`watch`, `watching`; `specs/Io.antt`).
+//! The grammar is defined in `specs/Grammar.antt`, reading from left to right in `specs/Reading.antt`, the
+//! first fault of tokens that spell no bundle in `specs/FirstFault.antt`, and texts of bytes and numbers in
+//! `specs/Pieces.antt`. `reading` reads all bytes of a reader; `token` and `starts` cut them into tokens.
+//! `parser` reads one token, a given number of items, or lines up to the next section, and `parts` reads the
+//! sections of a bundle with it. `parse_bundle` promises the one bundle that the tokens spell, or the first
+//! fault (`fault`). `pieces` and `writing` write texts, or say how many of their bytes were sent;
+//! `written_is_read` says that a written solution can be read again. All reading and writing goes through a
+//! `Watch`, which counts the calls that fail (`watch`, `watching`; `specs/Io.antt`).
 #![tactic(auto)]
 
 mod fault;

@@ -1,4 +1,4 @@
-//! Reading tokens from left to right: one token, so many of a kind, or lines up to the next section.
+//! Reading tokens from left to right: one token, a given number of items, or lines up to the next section.
 
 ghost use Rattle.std.specs.Prelude.{◌≡◌, ◌≤◌, ◌<◌, List, [], length, codes, Result, IfOk, Option, Some, None, option_map, drop, min};
 ghost use Rattle.std.specs.Char.{digit_value, is_ascii_digit};
@@ -19,11 +19,11 @@ use std::marker::Model;
 pub(crate) enum Refusal {
     /// Something else is due there.
     Due(What),
-    /// A number above the range of its place.
+    /// A number is above its limit.
     OutOfRange,
 }
 
-/// Why a part was not read.
+/// Why reading stopped.
 #[derive(Drop)]
 pub(crate) enum Stop {
     Memory,
@@ -50,7 +50,7 @@ impl<T: Drop> From<AllocFailed<T>> for Stop {
     }
 }
 
-/// The tokens that are left, each with its text. A part that is refused leaves the refused token first.
+/// The tokens that are left, each with its text. After a refusal the refused token is the first of them.
 #[derive(Drop)]
 pub(crate) struct Parser<'a> {
     alloc: Global,
@@ -112,7 +112,7 @@ impl<'a> Parser<'a> {
         }
     }
 
-    /// Goes after the next token.
+    /// Skips the next token.
     fn skip(&mut self)
         requires { 0 < length self.old }
         ensures { self.new ≡ drop 1 self.old }
@@ -120,7 +120,7 @@ impl<'a> Parser<'a> {
         self.tokens = &self.tokens[1..];
     }
 
-    /// The next token is this text; `due` says what it is.
+    /// Takes the next token if it is this text; `due` is the word for what is expected.
     pub(crate) fn word(&mut self, due: What, text: &[u8]) -> Result<(), Stop>
         ensures { Reads result self.new (word_at due text.now self.old) }
     {
@@ -205,7 +205,7 @@ impl<'a> Parser<'a> {
         Ok(day)
     }
 
-    /// The next two tokens are the keyword and `=`.
+    /// Whether the next two tokens are the keyword and `=`.
     fn begins_section(&self, keyword: Keyword) -> bool
         ensures { result ≡ begins_section keyword self.now }
     {
@@ -218,7 +218,7 @@ impl<'a> Parser<'a> {
         }
     }
 
-    /// So many, one after the other.
+    /// The given number of items, one after the other.
     pub(crate) fn times<T: Parse>(&mut self, count: usize) -> Result<Items<T>, Stop>
         ensures { Reads result self.new (times_at T.read count self.old) }
     {
@@ -229,7 +229,7 @@ impl<'a> Parser<'a> {
         Ok(Items::from_vec(items))
     }
 
-    /// A count, and that many.
+    /// A count, and as many items.
     #[tactic(auto, unfolding(crate::specs::Reading::listed_at))]
     pub(crate) fn listed<T: Parse>(&mut self) -> Result<Listed<T>, Stop>
         ensures { Reads result self.new (listed_at T.read self.old) }
@@ -242,7 +242,7 @@ impl<'a> Parser<'a> {
         })
     }
 
-    /// A keyword, `=`, a count, and that many.
+    /// A keyword, `=`, a count, and as many items.
     #[tactic(auto, unfolding(crate::specs::Reading::section_at))]
     pub(crate) fn section<T: Parse>(&mut self, keyword: Keyword) -> Result<Listed<T>, Stop>
         ensures { Reads result self.new (section_at keyword T.read self.old) }
@@ -252,7 +252,7 @@ impl<'a> Parser<'a> {
         self.listed()
     }
 
-    /// The next token is the keyword.
+    /// Whether the next token is the keyword.
     fn begins_with(&self, keyword: Keyword) -> bool
         ensures { result ≡ begins_with keyword self.now }
     {
@@ -262,7 +262,7 @@ impl<'a> Parser<'a> {
         }
     }
 
-    /// A section, where its keyword stands.
+    /// A section, if its keyword is next.
     #[tactic(auto, unfolding(crate::specs::Reading::optional_at))]
     pub(crate) fn optional_section<T: Parse>(
         &mut self,
@@ -286,8 +286,8 @@ impl<'a> Parser<'a> {
         self.times(count.value as usize)
     }
 
-    /// Lines up to the keyword and `=` of the next section, and these two. A line takes a token at least, so there
-    /// are at most as many lines as tokens.
+    /// Lines up to the keyword and `=` of the next section, and these two. Each line takes at least one
+    /// token, so there are at most as many lines as tokens.
     pub(crate) fn until<T: Parse>(&mut self, keyword: Keyword) -> Result<Items<T>, Stop>
         ensures { Reads result self.new (until_at T.read keyword self.old) }
     {
@@ -323,7 +323,7 @@ pub(crate) const MAX_COUNT: u32 = 99_999;
 /// A number above every limit.
 const BEYOND: u32 = 1_000_000;
 
-/// A name is any word: a token that is no mark.
+/// Whether a text is a name: a name is any token that isn't a mark.
 fn is_name(text: &[u8]) -> bool
     ensures { result ≡ is_name text.now }
 {
@@ -333,7 +333,7 @@ fn is_name(text: &[u8]) -> bool
     }
 }
 
-/// Digits alone.
+/// Whether a text has only digits.
 fn is_number(text: &[u8]) -> bool
     ensures { result ≡ is_number text.now }
 {
@@ -346,7 +346,7 @@ fn are_digits(text: &[u8]) -> bool
     text.iter().all(|byte| byte.is_ascii_digit())
 }
 
-/// The number that digits write, or a number above every limit.
+/// The number that the digits spell, or a number above every limit.
 fn number_of(text: &[u8]) -> u32
     ensures { result ≡ min (digits_value 10 text.now) BEYOND }
 {
@@ -357,7 +357,7 @@ fn number_of(text: &[u8]) -> u32
     value
 }
 
-/// The value of a digit, and something up to 36 for any other byte.
+/// The value of a digit, or a number up to 36 for any other byte.
 fn digit_value(byte: u8) -> u32
     ensures value { result ≡ digit_value byte }
     ensures small { result ≤ 36 }

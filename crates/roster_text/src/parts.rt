@@ -1,4 +1,4 @@
-//! The parts of the four texts, each read as the grammar says.
+//! The sections of the four texts, each read as the grammar says.
 
 ghost use Rattle.roster_text.specs.Reading.{Reads, assignment_at, bundle_at, contract_at, history_at, nurse_at, nurse_day_at, nurse_history_at, pair_at, request_at, requirement_at, scenario_at, shift_type_at, solution_at, succession_at, title_at, week_data_at, week_pairs_at};
 
@@ -83,7 +83,7 @@ impl Parse for Nurse {
     }
 }
 
-/// The name of the scenario, and how many weeks it has.
+/// The name of the scenario, and its number of weeks.
 #[tactic(auto, unfolding(crate::specs::Reading::title_at))]
 fn scenario_title(parser: &mut Parser<'_>) -> Result<(Token, Number), Stop>
     ensures { Reads result parser.new (title_at parser.old) }
@@ -138,7 +138,7 @@ impl Parse for NurseHistory {
     }
 }
 
-/// The history, with so many lines.
+/// The history, with the given number of lines.
 #[tactic(auto, unfolding(crate::specs::Reading::history_at))]
 fn parse_history(parser: &mut Parser<'_>, lines: usize) -> Result<History, Stop>
     ensures { Reads result parser.new (history_at lines parser.old) }
@@ -269,7 +269,7 @@ impl Parse for Solution {
 impl Parse for Bundle {
     ghost read = { bundle_at };
 
-    /// The four texts, as far as the last solution.
+    /// The four texts, up to the last solution.
     #[tactic(auto, unfolding(crate::specs::Reading::bundle_at))]
     fn parse(parser: &mut Parser<'_>) -> Result<Bundle, Stop> {
         let scenario = Scenario::parse(parser)?;

@@ -9,7 +9,8 @@ use crate::watch::Watch;
 use itoa::Buffer;
 use std::io::Write;
 
-/// A piece of a text: bytes as they are, or a number in decimal, without leading zeros; a count may be greater than 64 bits hold.
+/// A piece of a text: bytes, or a number in decimal without leading zeros. A number can exceed 64 bits, since
+/// a count of assignments can.
 #[derive(Clone, Copy)]
 pub enum Piece<'a> {
     Bytes(&'a [u8]),
@@ -17,7 +18,7 @@ pub enum Piece<'a> {
     Count(u128),
 }
 
-/// Writes all of the bytes, by as many writes as it takes.
+/// Writes all of the bytes, with as many writes as it takes.
 pub fn write_bytes<W: Write>(out: &mut Watch<W>, bytes: &[u8]) -> Result<(), WriteFault>
     ensures ok { OnOk result (Writes W.contents out.old out.new bytes.now) }
     ensures err { IfErr result
@@ -52,8 +53,8 @@ pub fn write_pieces<W: Write>(out: &mut Watch<W>, pieces: &[Piece<'_>]) -> Resul
     Ok(())
 }
 
-/// Writes pieces that are a part of a longer text. It takes how many bytes of that text were sent before, and returns
-/// how many are sent then; a fault counts those of the whole text.
+/// Writes pieces of a longer text. It takes the number of bytes of that text that were sent before, and
+/// returns the number that are sent then; a fault counts the bytes of the whole text.
 pub fn send_pieces<W: Write>(
     out: &mut Watch<W>,
     mut sent: usize,

@@ -16,7 +16,8 @@ pub const MAX_INPUT: usize = 16_777_216;
 /// The most bytes that one read is asked for.
 const CHUNK: usize = 65_536;
 
-/// All bytes up to the reader's end. Any fault of a read ends it, also one that could be tried again.
+/// All bytes up to the reader's end. Any fault of a read ends it, even one after which the read could be
+/// tried again.
 pub fn read_all<R: Read>(alloc: Global, input: &mut Watch<R>) -> Result<Vec<u8>, TextFault>
     ensures all { IfOk result
         (λ bytes. IfSome (R.remaining input.old.inner) (λ given. bytes.items ≡ given)) }

@@ -1,4 +1,4 @@
-//! How many tokens a text has.
+//! The number of tokens of a text, which is counted before memory for them is taken.
 
 ghost use Rattle.std.specs.Prelude.{◌≡◌, ◌+◌, ◌-◌, ◌<◌, ◌≤◌, length};
 ghost use Rattle.roster_bundle.specs.Token.{begins_at, is_mark, is_separator, tokens_of};
@@ -7,10 +7,11 @@ ghost use Rattle.roster_text.specs.Starts.{lanes_where, starts_in};
 use crate::token::{is_mark, is_word_byte};
 use std::simd::prelude::*;
 
-/// How many places one vector holds.
+/// The number of positions in one vector.
 const LANES: usize = 64;
 
-/// How many tokens a text has: those that begin at its first place, at the whole vectors of places after it, and at the rest.
+/// The number of tokens of a text: those that begin at its first byte, in the whole vectors after it, and in
+/// the rest.
 pub(crate) fn token_count(text: &[u8]) -> usize
     ensures { result ≡ length (tokens_of text.now) }
 {
@@ -23,7 +24,7 @@ pub(crate) fn token_count(text: &[u8]) -> usize
     count + starts_between(text, first + vectors * LANES, text.len())
 }
 
-/// How many tokens begin from one place up to another, looked at one after the other.
+/// The number of tokens that begin from one position up to another, counted one by one.
 fn starts_between(text: &[u8], from: usize, to: usize) -> usize
     requires order { from ≤ to }
     requires within { to ≤ length text.now }
@@ -38,7 +39,7 @@ fn starts_between(text: &[u8], from: usize, to: usize) -> usize
     count
 }
 
-/// Whether a token begins at a place.
+/// Whether a token begins at a position.
 #[tactic(auto, unfolding(roster_bundle::specs::Token::begins_at, roster_bundle::specs::Token::follows_word_byte))]
 fn begins_at(text: &[u8], at: usize) -> bool
     requires { at < length text.now }
@@ -47,8 +48,8 @@ fn begins_at(text: &[u8], at: usize) -> bool
     is_mark(text[at]) || (is_word_byte(text[at]) && !(at > 0 && is_word_byte(text[at - 1])))
 }
 
-/// How many tokens begin at the places of one vector that has a byte before it: a mark begins one, and so does a byte that is
-/// no separator and follows no word byte.
+/// The number of tokens that begin in one vector with a byte before it: a mark begins one, and so does a word
+/// byte that follows no word byte.
 #[inline(always)]
 fn starts_at(text: &[u8], at: usize) -> usize
     requires after_first { 0 < at }
@@ -62,7 +63,7 @@ fn starts_at(text: &[u8], at: usize) -> usize
     begins.simd_eq(u8x64::splat(255)).to_bitmask().count_ones() as usize
 }
 
-/// The lanes of marks.
+/// The lanes that are marks.
 #[inline(always)]
 fn marks(bytes: u8x64) -> u8x64
     ensures { result ≡ lanes_where is_mark bytes }
@@ -75,7 +76,7 @@ fn marks(bytes: u8x64) -> u8x64
     marks.select(u8x64::splat(255), u8x64::splat(0))
 }
 
-/// The lanes of separators.
+/// The lanes that are separators.
 #[inline(always)]
 fn separators(bytes: u8x64) -> u8x64
     ensures { result ≡ lanes_where is_separator bytes }

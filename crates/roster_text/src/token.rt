@@ -23,7 +23,8 @@ pub(crate) fn is_mark(byte: u8) -> bool
     matches!(byte, b'(' | b')' | b',' | b'=')
 }
 
-// Letters and digits come first, since this runs at each byte of a word: of the bytes from `-` on only `=` isn't one.
+// Letters and digits come first, since this runs at each byte of a word. From `-` on the only byte that isn't
+// a word byte is `=`.
 #[tactic(auto, unfolding(roster_bundle::specs::Token::is_word_byte, roster_bundle::specs::Token::is_separator, roster_bundle::specs::Token::is_mark))]
 pub(crate) fn is_word_byte(byte: u8) -> bool
     ensures { result ≡ is_word_byte byte }
@@ -34,12 +35,12 @@ pub(crate) fn is_word_byte(byte: u8) -> bool
     !matches!(byte, b' ' | b'\t' | b'\n' | b'\r' | b'(' | b')' | b',')
 }
 
-// The first place from `at` on without a separator, or the end, with its line.
+// The first position from `at` on without a separator, or the end, with its line.
 #[tactic(auto, using(crate::proofs::TokenRules::line_rules))]
 fn next_start(text: &[u8], mut at: usize, mut line: usize) -> (usize, usize)
     requires in_text { at ≤ length text.now }
     requires on_line { line ≡ line_at text.now at }
-    ensures place { result.0 ≡ at + prefix_len is_separator (drop at text.now) }
+    ensures position { result.0 ≡ at + prefix_len is_separator (drop at text.now) }
     ensures line { result.1 ≡ line_at text.now result.0 }
 {
     while at < text.len() && is_separator(text[at]) {
@@ -51,7 +52,7 @@ fn next_start(text: &[u8], mut at: usize, mut line: usize) -> (usize, usize)
     (at, line)
 }
 
-// The first place from `at` on without a word byte, or the end.
+// The first position from `at` on without a word byte, or the end.
 fn word_end(text: &[u8], mut at: usize) -> usize
     requires { at ≤ length text.now }
     ensures { result ≡ at + prefix_len is_word_byte (drop at text.now) }
@@ -75,7 +76,7 @@ fn token_end(text: &[u8], start: usize) -> usize
     }
 }
 
-// Goes over the tokens of a text.
+// Iterates over the tokens of a text.
 #[derive(Drop)]
 struct Scanner<'a> {
     text: &'a [u8],
@@ -124,8 +125,8 @@ impl<'a> Iterator for Scanner<'a> {
     }
 }
 
-/// Cuts a text into its tokens. Blanks, tabs, CR and LF stand between them; each of `(`, `)`, `,` and `=` is a token
-/// alone, and every other longest run of bytes is a word. The only fault is `Memory`.
+/// Cuts a text into its tokens. Blanks, tabs, CR and LF separate them; each of `(`, `)`, `,` and `=` is a
+/// token of its own, and every other longest sequence of bytes is a word. The only fault is `Memory`.
 pub fn tokens(alloc: Global, text: &[u8]) -> Result<Vec<Token>, TextFault>
     ensures exact { IfOk result (λ ts. ts.items ≡ tokens_of text.now) }
     ensures facts { IfOk result (λ ts. AreTokensOf text.now ts.items) }

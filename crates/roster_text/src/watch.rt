@@ -1,5 +1,6 @@
-//! A reader or a writer that counts its calls, and how many of them have failed. What reads and writes stands in a module of
-//! its own (`watching`), from which the device and the counts cannot be reached but by a call of these.
+//! A reader or a writer that counts its calls, and those of them that failed. The `Read` and `Write`
+//! implementations have a module of their own (`watching`), which can reach the device and the counts only
+//! through the functions here.
 
 ghost use Rattle.std.specs.Prelude.{◌≡◌, ◌<◌, ◌↔◌, IsTrue, is_err};
 ghost use Rattle.std.specs.Fn.{FnOnceReturnsAtMut};
@@ -8,10 +9,10 @@ ghost use Rattle.roster_text.specs.Io.{IsOneRead, IsOneWrite, counted, is_refuse
 use std::io;
 use std::marker::Model;
 
-/// A reader or a writer that counts its reads and writes, and how many of them have failed. Its flushes, and how many of these have
-/// failed, it counts apart.
+/// A reader or a writer that counts its reads and writes, and those of them that failed. It counts its
+/// flushes, and those of them that failed, separately.
 ///
-/// A write that takes nothing of at least one byte counts as failing.
+/// A write that takes none of at least one byte counts as failed.
 #[derive(Drop)]
 pub struct Watch<T> {
     inner: T,
@@ -35,7 +36,7 @@ impl<T> Model for Watch<T> {
 }
 
 impl<T> Watch<T> {
-    /// A watch over a reader or a writer; there was no call yet.
+    /// Puts a reader or a writer under watch, before its first call.
     pub fn new(inner: T) -> Watch<T>
         ensures { result ≡ record {
           inner = inner;
@@ -68,8 +69,8 @@ impl<T> Watch<T> {
         inner
     }
 
-    // These three take the device's call as an argument, so that their contracts can say that the answer is that of
-    // one call, and what the device is after it.
+    // These three take the device's call as an argument, so that their contracts can say that the result is
+    // that of one call, and what the device is after it.
 
     pub(crate) fn read_once<F: FnOnce(&mut T, &mut [u8]) -> io::Result<usize>>(
         &mut self,

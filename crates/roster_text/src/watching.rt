@@ -1,5 +1,5 @@
-//! Reading and writing under watch. A call is one of the device, with the same bytes, and its answer is the device's. The counts grow by
-//! calls of the device alone.
+//! Reading and writing under watch. Each call is passed to the device with the same bytes, and returns the
+//! device's result. Only calls of the device raise the counts.
 
 ghost use Rattle.std.specs.Prelude.{◌≡◌, is_err};
 ghost use Rattle.std.specs.Io.{ReadsAtMost, WritesAtMost};

@@ -60,8 +60,8 @@ fn send_nurse<W: Write, S: SolutionView>(
     nurse: usize,
 ) -> Result<usize, WriteFault>
     requires { nurse < (S.shown view.now).nurses }
-    ensures ok { IfOk result
-        (λ after. Sends W.contents out.old out.new sent after (nurse_lines (S.shown view.now) nurse)) }
+    ensures ok { IfOk result (λ after. Sends W.contents out.old out.new sent after
+        (nurse_lines (S.shown view.now) nurse)) }
     ensures err { IfErr result
         (BreaksIn W.contents out.old out.new sent (nurse_lines (S.shown view.now) nurse)) }
 {
@@ -121,7 +121,8 @@ pub fn weekday_text(weekday: u16) -> [u8; 3]
     }
 }
 
-/// How many assignments there are: up to seven for each nurse, so more than 64 bits hold where there are so many nurses.
+/// The number of assignments. There are up to seven for each nurse, so that with very many nurses 64 bits are
+/// not enough.
 fn count_assignments<S: SolutionView>(view: &S) -> u128
     ensures { result ≡ length (assignments (S.shown view.now)) }
 {

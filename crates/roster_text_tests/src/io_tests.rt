@@ -1,4 +1,5 @@
-//! What no clause says: that calls succeed, and printed text, over readers and writers that give way.
+//! What no clause states: that calls succeed, and which text they print, over readers and writers that take
+//! or give little.
 
 use roster_devices::{AtEnd, EndlessReader, FailingReader, OneByteReader, ShortWriter};
 use roster_text::{
@@ -9,7 +10,7 @@ use std::alloc::Global;
 use std::io::{ErrorKind, Read};
 use std::test::Fail;
 
-/// Whether a reader of so many blanks is refused as too long, and no read of it failed.
+/// Whether a reader of this number of blanks is refused as too long, without a failed read.
 fn is_too_long(alloc: Global, blanks: u64) -> bool {
     let mut input = Watch::new(EndlessReader { byte: b' ' }.take(blanks));
     let answer = read_all(alloc, &mut input);
@@ -35,7 +36,7 @@ fn reads_one_byte_at_a_time(rt: HostRuntime) {
 #[test]
 fn reads_no_further_than_a_failure(rt: HostRuntime) -> Result<(), Fail> {
     let text = vec![in rt.alloc(); b'a'; 200_000]?;
-    // Four reads give 65,536 bytes at most, and one finds the end.
+    // Four reads give at most 65,536 bytes, and one finds the end.
     for fails_in in 1..7 {
         let mut input = Watch::new(FailingReader {
             rest: text.as_slice(),
@@ -65,8 +66,8 @@ fn writes_bytes_and_numbers(rt: HostRuntime) {
 #[test]
 fn writes_pieces_as_far_as_they_are_taken(rt: HostRuntime) {
     let pieces = [Piece::Bytes(b"Ann "), Piece::Number(40)];
-    let mut room = [0; 9];
-    let mut out = Watch::new(ShortWriter::new(&mut room, AtEnd::Fail));
+    let mut buffer = [0; 9];
+    let mut out = Watch::new(ShortWriter::new(&mut buffer, AtEnd::Fail));
     assert!(rt; write_pieces(&mut out, &pieces).is_ok());
     let answer = send_pieces(&mut out, 7, &pieces);
     assert_eq!(rt; answer, Err(WriteFault::WriteFailed { sent: 10 }));

@@ -1,4 +1,5 @@
-//! That a watch's calls succeed, reach its device as often as its contracts say, with the same bytes, and answer what it answers.
+//! A watch's calls succeed, reach its device as often as its contracts say, with the same bytes, and answer
+//! what the device answers.
 
 ghost use Rattle.std.specs.Prelude.{◌≡◌, IfOk};
 
@@ -8,21 +9,22 @@ use std::io;
 use std::io::{ErrorKind, Read, Write};
 use std::test::Fail;
 
-/// A device that keeps how many bytes it was lent last, and takes or gives all of them, or fails so.
+/// A device that records the length of the last buffer that it was passed, and takes or gives all of it, or
+/// fails with an error.
 #[derive(Drop)]
 struct Witness {
-    lent: usize,
+    passed: usize,
     fault: Option<ErrorKind>,
 }
 
 impl Witness {
-    fn answer(&mut self, lent: usize) -> io::Result<usize>
-        ensures { IfOk result (λ count. count ≡ lent) }
+    fn answer(&mut self, passed: usize) -> io::Result<usize>
+        ensures { IfOk result (λ count. count ≡ passed) }
     {
-        self.lent = lent;
+        self.passed = passed;
         match self.fault {
             Some(kind) => Err(kind.into()),
-            None => Ok(lent),
+            None => Ok(passed),
         }
     }
 }
@@ -51,17 +53,17 @@ const FAULTS: [ErrorKind; 4] = [
     ErrorKind::Other,
 ];
 
-/// Whether a call failed so.
+/// Whether a call failed with this error.
 fn fails_so<T: Drop>(answer: io::Result<T>, kind: ErrorKind) -> bool {
     matches!(answer, Err(fault) if fault.kind() == kind)
 }
 
 #[test]
 fn a_fault_is_that_of_the_device(rt: HostRuntime) {
-    for place in 0..FAULTS.len() {
-        let kind = FAULTS[place];
+    for index in 0..FAULTS.len() {
+        let kind = FAULTS[index];
         let mut device = Watch::new(Witness {
-            lent: 0,
+            passed: 0,
             fault: Some(kind),
         });
         assert!(rt; fails_so(device.read(&mut [0; 3]), kind));
@@ -71,22 +73,22 @@ fn a_fault_is_that_of_the_device(rt: HostRuntime) {
 }
 
 #[test]
-fn a_call_lends_the_device_all_bytes(rt: HostRuntime) -> Result<(), Fail> {
+fn a_call_passes_the_device_all_bytes(rt: HostRuntime) -> Result<(), Fail> {
     let mut bytes = Vec::new(rt.alloc());
     bytes.resize(70_000, 0)?;
     for length in [0, 1, 8, 9, 4_097, 8_193, 65_537, 70_000] {
         let mut device = Watch::new(Witness {
-            lent: 70_001,
+            passed: 70_001,
             fault: None,
         });
         assert!(rt; matches!(device.write(&bytes[..length]), Ok(taken) if taken == length));
-        assert_eq!(rt; device.into_inner().lent, length);
+        assert_eq!(rt; device.into_inner().passed, length);
         let mut device = Watch::new(Witness {
-            lent: 70_001,
+            passed: 70_001,
             fault: None,
         });
         assert!(rt; matches!(device.read(&mut bytes[..length]), Ok(given) if given == length));
-        assert_eq!(rt; device.into_inner().lent, length);
+        assert_eq!(rt; device.into_inner().passed, length);
     }
     Ok(())
 }
@@ -130,8 +132,8 @@ fn a_read_after_a_failure_reaches_the_device(rt: HostRuntime) {
 #[test]
 fn a_read_is_one_of_the_device(rt: HostRuntime) {
     let mut input = Watch::new(CallCounter::new(b"one".as_slice(), 0));
-    let mut room = [0; 2];
-    assert!(rt; matches!(input.read(&mut room), Ok(2)));
+    let mut buffer = [0; 2];
+    assert!(rt; matches!(input.read(&mut buffer), Ok(2)));
     assert!(rt; !input.failed());
     assert_eq!(rt; input.into_inner().calls, 1);
 }
@@ -146,8 +148,8 @@ fn a_write_of_nothing_is_one_of_the_device(rt: HostRuntime) {
 
 #[test]
 fn a_write_that_takes_nothing_is_not_tried_again(rt: HostRuntime) {
-    let mut room = [0; 2];
-    let short = ShortWriter::new(&mut room, AtEnd::TakeNothing);
+    let mut buffer = [0; 2];
+    let short = ShortWriter::new(&mut buffer, AtEnd::TakeNothing);
     let mut out = Watch::new(CallCounter::new(short, 0));
     let answer = write_bytes(&mut out, b"one");
     assert_eq!(rt; answer, Err(WriteFault::WriteFailed { sent: 2 }));

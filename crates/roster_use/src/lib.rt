@@ -1,7 +1,8 @@
-//! The libraries, used as a program of one's own uses them: an example, which nothing stands on.
+//! An example: the libraries, used as a program of one's own would use them. Nothing depends on this crate.
 //!
-//! It reads a bundle, gives each nurse her best row with one workspace, improves the roster in rounds, and writes the weeks.
-//! It has no proof file: what each call asks for, the one before it has promised, or an `if` in front of it has looked at.
+//! It reads a bundle, gives each nurse her best row with one workspace, improves the roster in rounds, and
+//! writes the weeks. It has no proof file: what each call requires has been promised by a call before it, or
+//! checked by an `if` in front of it.
 #![tactic(auto)]
 
 mod rosters;

@@ -5,7 +5,7 @@ ghost use Rattle.roster_instance.specs.Rosters.{fits_case};
 ghost use Rattle.roster_rules.specs.Penalties.{penalty};
 
 use crate::stop::Stop;
-use roster_best::{Workspace, best_row, most_steps};
+use roster_best::{Workspace, best_row, most_search_extensions};
 use roster_case::{Case, Held, Roster};
 use roster_reports::write_weeks;
 use roster_rounds::{Outcome, improve, most_extensions};
@@ -14,8 +14,8 @@ use roster_text::{Watch, parse_bundle, read_all, tokens};
 use std::alloc::Global;
 use std::io::{Read, Write};
 
-/// Reads a bundle, gives each nurse her best row in turn, improves the roster in at most so many rounds, and writes its weeks. What
-/// the rounds do goes to the log.
+/// Reads a bundle, gives each nurse her best row in turn, improves the roster in at most this number of
+/// rounds, and writes its weeks. What the rounds do goes to the log.
 pub fn write_better_weeks<In: Read, Out: Write, Log: Write>(
     alloc: Global,
     rounds: u16,
@@ -25,7 +25,7 @@ pub fn write_better_weeks<In: Read, Out: Write, Log: Write>(
 ) -> Result<Outcome, Stop> {
     let source = read_all(alloc, input)?;
     let (mut case, roster) = read_roster(alloc, &source)?;
-    // Who holds a case lends it, and a meter is made of a case that isn't lent.
+    // A meter takes a case by `&mut`, and a `Held` passes its case by `&` only: so the meter is made first.
     let mut meter = Meter::new(&mut case);
     let mut held = Held::new(alloc, case, roster)?;
     let mut workspace = Workspace::for_case(alloc, held.case())?;
@@ -37,7 +37,7 @@ pub fn write_better_weeks<In: Read, Out: Write, Log: Write>(
     Ok(outcome)
 }
 
-/// The case and the roster that the bytes of a bundle say.
+/// The case and the roster that the bytes of a bundle describe.
 fn read_roster(alloc: Global, source: &[u8]) -> Result<(Case, Roster), Stop>
     ensures { IfOk result (λ said. fits_case said.0 said.1 ≡ true) }
 {
@@ -48,11 +48,11 @@ fn read_roster(alloc: Global, source: &[u8]) -> Result<(Case, Roster), Stop>
     Ok((case, roster))
 }
 
-/// Puts a nurse's best row in, also where it isn't cheaper, and answers what the roster costs with it.
+/// Puts a nurse's best row in, even if it isn't cheaper, and answers what the roster costs with it.
 ///
 /// # Errors
 ///
-/// There is no such nurse, or no room for the search. The roster stays as it is.
+/// There is no such nurse, or not enough capacity for the search. The roster stays as it is.
 pub fn put_best_row(
     held: &mut Held,
     nurse: usize,
@@ -63,10 +63,10 @@ pub fn put_best_row(
     ensures total { IfOk result (λ total. total ≡ penalty held.new.case held.new.roster) }
 {
     let case = held.case();
-    // What `best_row` asks for.
+    // What `best_row` requires.
     let can_search = nurse < case.nurses() && workspace.fits(case);
-    if !can_search || meter.room() < most_steps(case, nurse) {
-        return Err(Stop::NoRoom);
+    if !can_search || meter.room() < most_search_extensions(case, nurse) {
+        return Err(Stop::NoCapacity);
     }
     let best = best_row(held, nurse, 0, workspace, meter);
     held.replace_row(nurse, workspace.row());
@@ -83,10 +83,10 @@ fn improve_rounds<Log: Write>(
 ) -> Result<Outcome, Stop>
     ensures case { held.new.case ≡ held.old.case }
 {
-    // What `improve` asks for.
+    // What `improve` requires.
     let can_improve = workspace.fits(held.case());
     if !can_improve || meter.room() < most_extensions(held.case(), rounds) {
-        return Err(Stop::NoRoom);
+        return Err(Stop::NoCapacity);
     }
     Ok(improve(held, rounds, 0, workspace, meter, log)?)
 }

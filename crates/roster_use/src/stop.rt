@@ -8,16 +8,16 @@ use roster_text::{TextFault, WriteFault};
 /// Why the weeks aren't written, or not all of them.
 #[derive(Clone, Copy, Debug)]
 pub enum Stop {
-    /// The bytes were not read, or are not what the grammar says.
+    /// The bytes were not read, or don't follow the grammar.
     Text(TextFault),
-    /// What they say is refused: a name, a count, a nurse with too many states.
+    /// What they say is refused: a name, a count, or a nurse with too many states.
     Case(CaseFault),
     /// The roster breaks a hard rule.
     Hard(HardFault),
-    /// A growth was refused.
+    /// An allocation was refused.
     Memory,
-    /// The workspace or the meter has no room for a search. It can't come to that from `write_better_weeks`.
-    NoRoom,
+    /// The workspace or the meter has no capacity for a search. `write_better_weeks` never comes to that.
+    NoCapacity,
     /// The log failed.
     Log,
     /// The output failed.

@@ -13,7 +13,7 @@ static DAYS: [&str; 7] = [" Mon", " Tue", " Wed", " Thu", " Fri", " Sat", " Sun"
 const WIDE_CONTRACTS: &str = "FullTime (2,181) (1,7) (1,7) 9 1\n\
      PartTime (2,129) (1,7) (1,7) 13 1\nHalfTime (2,90) (1,7) (1,7) 19 0\n";
 
-/// How large a ward is, and what its bundles come from.
+/// How large a ward is, and the seed of its bundles.
 #[derive(Clone, Copy)]
 pub struct Size {
     pub kind: Kind,
@@ -23,7 +23,7 @@ pub struct Size {
 }
 
 impl Size {
-    /// A bundle of this size, by its number. No two are the same.
+    /// The bundle of this size with this number. No two are the same.
     pub fn bundle(&self, alloc: Global, number: u32) -> Result<Vec<u8>, AllocError> {
         let mut random = Random::new(self.seed, number);
         let ward = Ward::draw(alloc, self.kind, self.nurses, self.weeks, &mut random)?;
@@ -55,7 +55,7 @@ struct OffRequest {
     day: &'static str,
 }
 
-/// A request of three nurses in five, half of them for a day without any shift.
+/// The requests of three nurses in five, half of them for a day without any shift.
 fn draw_requests(
     alloc: Global,
     ward: &Ward,
@@ -77,7 +77,7 @@ fn draw_requests(
     Ok(requests)
 }
 
-/// A minimum that so many nurses keep, and an optimum.
+/// A minimum that this number of nurses keeps, and an optimum.
 fn draw_demand(kind: Kind, present: usize, random: &mut Random) -> (usize, usize) {
     let fewest = present.saturating_sub(random.below(2));
     let has_minimum = random.below(10) >= 4 && kind != Kind::Empty;
@@ -196,10 +196,10 @@ impl Writer {
             if let Some(days) = nurse.row.get(week) {
                 for (day, duty) in DAYS.iter().zip(days.iter()) {
                     if let Some(duty) = duty {
-                        let place = duty.shift.wrapping_mul(skills).wrapping_add(duty.skill);
+                        let position = duty.shift.wrapping_mul(skills).wrapping_add(duty.skill);
                         self.text.put_nurse(index)?;
                         self.text.put(*day)?;
-                        if let Some(ending) = endings.get(place) {
+                        if let Some(ending) = endings.get(position) {
                             self.text.put_bytes(ending)?;
                         }
                     }
@@ -210,7 +210,8 @@ impl Writer {
     }
 }
 
-/// What the line of an assignment ends in: the names of each shift and skill. Most of a bundle are such lines.
+/// What an assignment's line ends with: the names of each shift and skill. Most lines of a bundle are of this
+/// kind.
 fn endings_of(alloc: Global, kind: Kind) -> Result<Vec<Vec<u8>>, AllocError> {
     let mut endings = Vec::new(alloc);
     for shift in kind.shifts() {
@@ -227,7 +228,7 @@ fn endings_of(alloc: Global, kind: Kind) -> Result<Vec<Vec<u8>>, AllocError> {
     Ok(endings)
 }
 
-/// Puts the contracts. Those of a ward are for four weeks, as many times as the weeks go into that.
+/// Puts the contracts. Their numbers are those of four weeks, scaled to the ward's weeks.
 fn put_contracts(text: &mut Text, kind: Kind, weeks: usize) -> Result<(), AllocError> {
     if kind == Kind::Wide {
         return text.put(WIDE_CONTRACTS);
@@ -237,18 +238,18 @@ fn put_contracts(text: &mut Text, kind: Kind, weeks: usize) -> Result<(), AllocE
     put_contract(text, Contract::HalfTime, (5, 11), " (3,5) (3,5) ", weeks)
 }
 
-/// Puts a contract. More assignments and weekends than it says would be too many states in a year.
+/// Puts a contract. Its totals are capped, since in a year there would be too many states otherwise.
 fn put_contract(
     text: &mut Text,
     contract: Contract,
     assignments: (usize, usize),
-    rows: &str,
+    runs: &str,
     weeks: usize,
 ) -> Result<(), AllocError> {
     let scaled = |number: usize| number.saturating_mul(weeks) / 4;
     text.put(contract.name())?;
     text.put_pair(scaled(assignments.0), scaled(assignments.1).min(240))?;
-    text.put(rows)?;
+    text.put(runs)?;
     text.put_number(scaled(contract.weekends()).min(19))?;
     text.put(" 1\n")
 }
@@ -276,7 +277,7 @@ fn put_nurse_line(
     text.put("\n")
 }
 
-/// Puts what a nurse did before the first Monday. No assignment and no weekend counts for the ward yet.
+/// Puts what a nurse did before the first Monday. The history counts no assignment and no weekend yet.
 fn put_past(text: &mut Text, kind: Kind, past: Past) -> Result<(), AllocError> {
     text.put(" 0 0 ")?;
     match past {

@@ -5,7 +5,7 @@
 pub enum Kind {
     /// A ward like those of the competition.
     Ward,
-    /// The same, with so few states of a nurse that a year fits.
+    /// The same, with so few states for each nurse that a year fits.
     Year,
     /// The same as `Ward`, with minimums of 0 and an empty roster.
     Empty,
@@ -49,7 +49,7 @@ impl Kind {
         }
     }
 
-    /// How many weeks fit: with more a nurse would have too many states.
+    /// The most weeks that fit: with more a nurse would have too many states.
     pub fn most_weeks(self) -> u32 {
         match self {
             Kind::Ward | Kind::Empty => 19,
@@ -86,7 +86,7 @@ impl Kind {
         }
     }
 
-    /// Whether a shift may follow another on the next day, as the successions say.
+    /// Whether the successions let a shift follow another on the next day.
     pub fn may_follow(self, before: usize, after: usize) -> bool {
         match self {
             Kind::Wide => after != before.saturating_add(1) % 8,

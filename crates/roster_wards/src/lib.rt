@@ -1,4 +1,5 @@
-//! Made-up bundles of a size, for the program `roster_bench`: what its words ask for, the bundles, and a digest of what was written.
+//! Made-up bundles of a given size for the program `roster_bench`: what its words ask for, the bundles, and a
+//! digest of what the runs wrote.
 #![tactic(auto)]
 
 mod bundle;

@@ -5,7 +5,7 @@ ghost use Rattle.std.specs.Prelude.{◌≤◌, IfSome};
 use crate::bundle::Size;
 use crate::kind::Kind;
 
-/// What is done.
+/// What the program is to do.
 #[derive(Clone, Copy)]
 pub enum Work {
     /// Writes the bundle of this number.
@@ -16,7 +16,7 @@ pub enum Work {
     Polish { searches: u32 },
 }
 
-/// What is done, and with bundles of which size.
+/// What the program is to do, and with bundles of which size.
 #[derive(Clone, Copy)]
 pub struct Plan {
     pub work: Work,
@@ -56,7 +56,7 @@ impl Work {
 }
 
 impl Plan {
-    /// What these words ask for, the program's name the first of them.
+    /// What these words ask for. The program's name is the first of them.
     pub fn of_words(words: &[String]) -> Option<Plan> {
         let [_, command, kind, nurses, weeks, amount, seed] = words else {
             return None;
@@ -78,7 +78,7 @@ fn rounds_in(word: &str) -> Option<u16> {
     u16::try_from(number_in(word, 0, 1000)?).ok()
 }
 
-/// The number that a word says, where it is from `least` to `most`.
+/// The number that a word spells, if it is from `least` to `most`.
 fn number_in(word: &str, least: u32, most: u32) -> Option<u32>
     ensures { IfSome result (λ number. (least ≤ number) × (number ≤ most)) }
 {

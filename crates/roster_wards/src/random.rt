@@ -7,7 +7,7 @@ const FIRST_FACTOR: u64 = 0xbf58_476d_1ce4_e5b9;
 
 const SECOND_FACTOR: u64 = 0x94d0_49bb_1331_11eb;
 
-/// Numbers that look like random ones, and are the same for the same beginning.
+/// Numbers that look random, and are the same for the same seed.
 #[derive(Drop)]
 pub struct Random {
     state: u64,
@@ -28,7 +28,7 @@ impl Random {
         word ^ (word >> 31)
     }
 
-    /// A number below `bound`, which is below 2^32, or 0 where that is 0.
+    /// A number below `bound`, which is below 2^32, or 0 if `bound` is 0.
     pub fn below(&mut self, bound: usize) -> usize {
         let half = (self.next_word() >> 32) as usize;
         half.wrapping_mul(bound) >> 32

@@ -30,7 +30,7 @@ impl Contract {
         }
     }
 
-    /// The greatest number of days off in a row that is drawn.
+    /// The greatest number of days off in a row that a draw gives.
     fn most_days_off(self) -> usize {
         match self {
             Contract::FullTime => 3,
@@ -39,7 +39,7 @@ impl Contract {
         }
     }
 
-    /// How many weekends in four weeks are not too many.
+    /// How many weekends in four weeks a contract allows.
     pub fn weekends(self) -> usize {
         match self {
             Contract::FullTime | Contract::PartTime => 2,
@@ -59,7 +59,7 @@ impl Contract {
 /// The days before the first Monday.
 #[derive(Clone, Copy)]
 pub enum Past {
-    /// So many days of work, the last of them with this shift so many times in a row.
+    /// A number of days of work, and how many of them, up to the last, have this shift.
     Working {
         shift: usize,
         same: usize,
@@ -85,7 +85,7 @@ impl Past {
     }
 }
 
-/// A nurse, whose skills are `skills` neighbours from `first_skill` on.
+/// A nurse whose skills are `skills` consecutive ones from `first_skill` on.
 #[derive(Drop)]
 pub struct Nurse {
     pub contract: Contract,
@@ -110,11 +110,11 @@ impl Nurse {
             past: Past::draw(kind, random),
             row: Vec::new(alloc),
         };
-        let mut stretch = Stretch::after(nurse.past, random);
+        let mut run = Run::after(nurse.past, random);
         for _ in 0..weeks {
             let mut week = [None; 7];
             for duty in week.iter_mut() {
-                *duty = stretch.next_day(kind, &nurse, random);
+                *duty = run.next_day(kind, &nurse, random);
             }
             nurse.row.push(week)?;
         }
@@ -122,7 +122,7 @@ impl Nurse {
     }
 }
 
-/// A nurse's first skill, and how many there are.
+/// Draws a nurse's first skill, and how many skills there are.
 fn draw_skills(kind: Kind, random: &mut Random) -> (usize, usize) {
     if kind == Kind::Wide {
         return (0, kind.skills().len());
@@ -137,22 +137,22 @@ fn draw_skills(kind: Kind, random: &mut Random) -> (usize, usize) {
     }
 }
 
-/// Days of work or days off in a row, of which so many are left.
+/// A run of days of work or days off, with the number of days that are left.
 #[derive(Drop)]
-struct Stretch {
+struct Run {
     is_work: bool,
     shift: usize,
     left: usize,
 }
 
-impl Stretch {
-    /// What is left of the last stretch before the first Monday.
-    fn after(past: Past, random: &mut Random) -> Stretch {
+impl Run {
+    /// What is left of the last run before the first Monday.
+    fn after(past: Past, random: &mut Random) -> Run {
         let (is_work, shift) = match past {
             Past::Working { shift, .. } => (true, shift),
             Past::Off { .. } => (false, 0),
         };
-        Stretch {
+        Run {
             is_work,
             shift,
             left: random.below(3),
@@ -179,7 +179,7 @@ impl Stretch {
         })
     }
 
-    /// Begins the next stretch.
+    /// Begins the next run.
     fn turn(&mut self, kind: Kind, contract: Contract, random: &mut Random) {
         self.is_work = !self.is_work;
         if self.is_work {
@@ -221,7 +221,7 @@ impl Ward {
     /// How many nurses do what on the days of a week.
     pub fn staffing(&self, alloc: Global, week: usize) -> Result<Staffing, AllocError> {
         let mut staffing = Staffing {
-            counts: vec![in alloc; 0; PLACES]?,
+            counts: vec![in alloc; 0; SLOTS]?,
         };
         for nurse in self.nurses.iter() {
             if let Some(days) = nurse.row.get(week) {
@@ -247,8 +247,8 @@ impl Ward {
     }
 }
 
-/// A place for each shift, skill and day of a week.
-const PLACES: usize = 448;
+/// The index of a shift, skill and day of a week.
+const SLOTS: usize = 448;
 
 /// How many nurses do what on the days of a week.
 #[derive(Drop)]
@@ -258,18 +258,18 @@ pub struct Staffing {
 
 impl Staffing {
     fn add(&mut self, duty: Duty, day: usize) {
-        if let Some(count) = self.counts.get_mut(place(duty, day)) {
+        if let Some(count) = self.counts.get_mut(position(duty, day)) {
             *count = count.saturating_add(1);
         }
     }
 
     /// How many nurses do this on a day.
     pub fn count(&self, duty: Duty, day: usize) -> usize {
-        self.counts.get(place(duty, day)).copied().unwrap_or(0)
+        self.counts.get(position(duty, day)).copied().unwrap_or(0)
     }
 }
 
-fn place(duty: Duty, day: usize) -> usize {
+fn position(duty: Duty, day: usize) -> usize {
     let pair = duty.shift.wrapping_mul(8).wrapping_add(duty.skill);
     pair.wrapping_mul(7).wrapping_add(day)
 }

@@ -1,4 +1,4 @@
--- A roster without the work of absent nurses fits the case.
+-- A roster from which the work of absent nurses is taken out still fits the case.
 use Rattle.std.proofs.Common.{◌≡◌, ◌∙◌, ◌<◌, ◌==◌, ℕ, Bool, true, false, ap, arith, cond, eq-eqb, length, map, refl}
 use Rattle.std.specs.List.{list_all, range_with_len}
 use Rattle.std.proofs.lemmas.Bool.{and_from}
@@ -8,9 +8,9 @@ use Rattle.roster_instance.specs.declared.choice.Choice.TheVariants.{Off}
 use Rattle.roster_instance.specs.Meaning.{Meaning, day_count, is_absent, nurse_count}
 use Rattle.roster_instance.specs.Rosters.{Row, Rows, choice_on, fits_case, is_choice_of, is_row_of, row_of}
 use Rattle.roster_who.specs.Who.{here_choice, without_absent_work}
-use Rattle.roster_who.proofs.PlaceLemmas.{own_fits}
+use Rattle.roster_who.proofs.SlotLemmas.{own_fits}
 
--- each of some numbers gives something that passes
+-- a test that f passes at each number below n passes on the whole list
 all_made : {X : Type 0} (p : X → Bool) (f : ℕ → X) (n : ℕ) → ((k : ℕ) → k < n → p (f k) ≡ true) → list_all p (map f (range_with_len 0 n)) ≡ true
 all_made p f n each =
     list_all-from_AllPass p (map f (range_with_len 0 n))

@@ -1,4 +1,4 @@
--- Where the hard rules are kept, the rows that have an assignment are the allowed ones that have it.
+-- If the hard rules are kept, the rows with an assignment are the allowed rows that have it.
 use Rattle.std.proofs.Common.{◌≡◌, ◌∙◌, ◌<◌, ◌≤◌, ◌&&◌, ◌==◌, ℕ, Bool, true, false, cond, not, ap, ap₂, arith, refl, sym, List, [], ◌∷◌, length, Contains, filter, map, min, nat_le, nat_lt}
 use Rattle.std.specs.List.{range_with_len}
 use Rattle.std.proofs.lemmas.Bool.{and_parts, eqb-true}
@@ -14,16 +14,16 @@ use Rattle.roster_rules.specs.AllowedRows.{allowed_rows, keeps_frozen_day, keeps
 use Rattle.roster_rules.specs.HardRules.{breaks_succession, is_here, is_here_on, keeps_absences, keeps_hard, keeps_skills, keeps_successions, may_take}
 use Rattle.roster_rules.proofs.RunSums.{sum_zero}
 use Rattle.roster_laws.specs.OneRow.{keeps_by_parts, others}
-use Rattle.roster_laws.specs.Staffing.{lacking, meets, with_choice}
+use Rattle.roster_laws.specs.Staffing.{shortfall, meets, with_choice}
 use Rattle.roster_laws.proofs.Allowed.{kept_passes}
 use Rattle.roster_laws.proofs.Below.{all_both, all_elim, all_same}
 use Rattle.roster_laws.proofs.Keeps.{allowed-with_row, keeps_hard-parts}
-use Rattle.roster_laws.proofs.Lacking.{meets-lacking}
-use Rattle.roster_worths.specs.Worths.{can_work}
+use Rattle.roster_laws.proofs.Shortfall.{meets-shortfall}
+use Rattle.roster_prices.specs.LowerBounds.{can_work}
 use Rattle.roster_who.specs.declared.asked.Asked.{Asked}
-use Rattle.roster_who.specs.Offers.{keeps_places}
-use Rattle.roster_who.specs.Who.{cost_with, here_choice, is_asked, is_taking, misses_no_more, missed, taking_rows, without_absent_work}
-use Rattle.roster_who.proofs.RowLemmas.{misses_is, works}
+use Rattle.roster_who.specs.Offers.{keeps_slots}
+use Rattle.roster_who.specs.Who.{cost_with, here_choice, is_asked, is_taking, short_by_no_more, missed, taking_rows, without_absent_work}
+use Rattle.roster_who.proofs.RowLemmas.{short_is, works}
 
 one_more_filtered : {X : Type 0} (q : X → Bool) (x : X) (ys both : List X) (b : Bool) → both ≡ filter q ys → cond (b && q x) (x ∷ both) both ≡ filter q (cond b (x ∷ ys) ys)
 one_more_filtered q x ys both true rest = ap (λ zs. cond (q x) (x ∷ zs) zs) rest
@@ -63,7 +63,7 @@ module _ (c : Meaning) (r : Rows) (fits : fits_case c r ≡ true) (keeps : keeps
       (all_elim (skill_count c) (λ l. not (nat_lt (cover r d s l) (minimum c d s l)))
       (all_elim (shift_count c) (λ t. all_below (skill_count c) (λ l. not (nat_lt (cover r d t l) (minimum c d t l)))) (all_elim (day_count c) (λ e. meets c e (cover r e)) staffed d day) s shift) k skill)
 
-  -- who is absent is off
+  -- an absent nurse is off
   here : (n d : ℕ) → n < nurse_count c → d < day_count c → is_here c n d (choice_on (row_of r n) d) ≡ true
   here n d nurse day = all_elim (day_count c) (is_here_on c n (row_of r n)) (all_elim (nurse_count c) (λ m. keeps_absences c m (row_of r m) (day_count c)) three.1 n nurse) d day
 
@@ -88,23 +88,23 @@ module _ (c : Meaning) (r : Rows) (fits : fits_case c r ≡ true) (keeps : keeps
     within : n < length r
     within = has_row c r n fits inside
 
-    places_meet : (d : ℕ) → d < day_count c → (x : Choice) → keeps_places c r n d x ≡ meets c d (with_choice (others r n d) x)
-    places_meet d day x =
+    slots_meet : (d : ℕ) → d < day_count c → (x : Choice) → keeps_slots c r n d x ≡ meets c d (with_choice (others r n d) x)
+    slots_meet d day x =
         all_same (shift_count c) (λ s. all_below (skill_count c) (λ k. nat_le (min (minimum c d s k) (cover r d s k)) (with_choice (others r n d) x s k))) (λ s. all_below (skill_count c) (λ k. not (nat_lt (with_choice (others r n d) x s k) (minimum c d s k))))
         (λ s shift. all_same (skill_count c) (λ k. nat_le (min (minimum c d s k) (cover r d s k)) (with_choice (others r n d) x s k)) (λ k. not (nat_lt (with_choice (others r n d) x s k) (minimum c d s k)))
         (λ k skill. least_is (minimum c d s k) (cover r d s k) (with_choice (others r n d) x s k) (met d s k day shift skill)))
 
-    row_is : (row : Row) → (can_work c from r n row && all_below (day_count c) (misses_no_more c r (with_row r n row))) ≡ (keeps_hard c (with_row r n row) && keeps_frozen_days c from r n row)
+    row_is : (row : Row) → (can_work c from r n row && all_below (day_count c) (short_by_no_more c r (with_row r n row))) ≡ (keeps_hard c (with_row r n row) && keeps_frozen_days c from r n row)
     row_is row =
         let D = day_count c in
         let able : ℕ → Bool = λ d. may_take c n d (choice_on row d) in
         let stays : ℕ → Bool = λ d. keeps_frozen_day c from r n d (choice_on row d) in
         let follows : ℕ → Bool = λ d. not (breaks_succession c n (days_of row) d) in
         let staffed : ℕ → Bool = λ d. meets c d (with_choice (others r n d) (choice_on row d)) in
-        ap₂ (λ a b. a && b) (works c from r n row) (misses_is c r n within row)
-        ∙ sym (all_both D (λ d. (able d && stays d) && follows d) (λ d. keeps_places c r n d (choice_on row d)))
-        ∙ all_same D (λ d. ((able d && stays d) && follows d) && keeps_places c r n d (choice_on row d)) (λ d. ((able d && staffed d) && stays d) && follows d)
-        (λ d day. ap (λ b. ((able d && stays d) && follows d) && b) (places_meet d day (choice_on row d)) ∙ reorder (able d) (stays d) (follows d) (staffed d))
+        ap₂ (λ a b. a && b) (works c from r n row) (short_is c r n within row)
+        ∙ sym (all_both D (λ d. (able d && stays d) && follows d) (λ d. keeps_slots c r n d (choice_on row d)))
+        ∙ all_same D (λ d. ((able d && stays d) && follows d) && keeps_slots c r n d (choice_on row d)) (λ d. ((able d && staffed d) && stays d) && follows d)
+        (λ d day. ap (λ b. ((able d && stays d) && follows d) && b) (slots_meet d day (choice_on row d)) ∙ reorder (able d) (stays d) (follows d) (staffed d))
         ∙ sym (allowed-with_row c r keeps n within inside row from)
 
     pub rows_are_allowed : taking_rows c from r asked n ≡ filter (λ row. is_asked asked (choice_on row asked.day)) (allowed_rows c from r n)
@@ -115,8 +115,8 @@ module _ (c : Meaning) (r : Rows) (fits : fits_case c r ≡ true) (keeps : keeps
     none_missed : (row : Row) → keeps_hard c (with_row r n row) ≡ true → missed c (with_row r n row) ≡ 0
     none_missed row kept =
         let staffed = (and_parts _ _ (and_parts _ _ (and_parts _ _ (sym (keeps_hard-parts c (with_row r n row)) ∙ kept)).0).0).0 in
-        sum_zero (day_count c) (λ d. lacking c (minimum c d) (cover (with_row r n row) d))
-        (λ d day. eqb-true (lacking c (minimum c d) (cover (with_row r n row) d)) 0 (sym (meets-lacking c d (cover (with_row r n row) d)) ∙ all_elim (day_count c) (λ e. meets c e (cover (with_row r n row) e)) staffed d day))
+        sum_zero (day_count c) (λ d. shortfall c (minimum c d) (cover (with_row r n row) d))
+        (λ d day. eqb-true (shortfall c (minimum c d) (cover (with_row r n row) d)) 0 (sym (meets-shortfall c d (cover (with_row r n row) d)) ∙ all_elim (day_count c) (λ e. meets c e (cover (with_row r n row) e)) staffed d day))
 
     pub cost_is_penalty : (row : Row) → Contains (taking_rows c from r asked n) row → cost_with c r n row ≡ penalty_with c r n row
     cost_is_penalty row member =

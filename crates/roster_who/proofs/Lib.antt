@@ -1,5 +1,5 @@
 pub mod WayLemmas
-pub mod PlaceLemmas
+pub mod SlotLemmas
 pub mod RowLemmas
 pub mod TakingLemmas
 pub mod TakerLemmas

@@ -13,7 +13,7 @@ order_total = then_total (then_total (on_total (λ (t : Taker). t.missed) nat_cm
 order_weak : IsStrictWeakOrder comes_before
 order_weak = ranks_by order_total (λ (t : Taker). t)
 
--- each is after those that come before it
+-- the list is sorted
 abbrev IsUp : List Taker → Type 0
 IsUp [] = Unit {0}
 IsUp (x ∷ []) = Unit {0}
@@ -63,7 +63,7 @@ unfolding put_in
 put_same x [] = IsPermutation-refl (x ∷ [])
 put_same x (y ∷ ys) = same_next x y ys (put_in x ys) (comes_before x y) (put_same x ys)
 
--- there is such an order
+-- such an order exists
 made_order : (xs : List Taker) → (ys : List Taker) × (IsPermutation xs ys × IsUp ys)
 made_order [] = ([], (IsPermutation-refl [], tt))
 made_order (x ∷ xs) =

@@ -1,4 +1,5 @@
--- The search over a nurse's offers finds the first least of her rows that have the assignment, and finds none where she has no such row.
+-- The search over a nurse's offers finds the first of her cheapest rows that have the assignment, or nothing
+-- if she has no such row.
 use Rattle.std.proofs.Common.{◌≡◌, ◌∙◌, ◌+◌, ◌-◌, ◌*◌, ◌<◌, ◌≤◌, ◌&&◌, ◌||◌, ◌==◌, ℕ, zero, suc, Bool, true, false, not, ap, ap₂, arith, refl, subst, sym, List, [], ◌∷◌, length, Contains, IsSome, Option, Some, None, filter, if◌then◌else◌, is_some, nat_lt}
 use Rattle.std.specs.Prelude.{option_map}
 use Rattle.std.specs.List.{All}
@@ -27,10 +28,10 @@ use Rattle.roster_rules.proofs.Bounds.{request_on-within}
 use Rattle.roster_rules.proofs.RunBounds.{sum_both}
 use Rattle.roster_rules.proofs.RunSums.{sum_same}
 use Rattle.roster_laws.specs.OneRow.{others, price, prices, rest_of}
-use Rattle.roster_laws.specs.Staffing.{lacking, with_choice}
+use Rattle.roster_laws.specs.Staffing.{shortfall, with_choice}
 use Rattle.roster_laws.proofs.AllRows.{member_is_choice, member_is_row}
 use Rattle.roster_laws.proofs.Below.{all_at, all_both, all_same}
-use Rattle.roster_laws.proofs.Lacking.{lacking-off, lacking-work, no_less, staffing-lacking}
+use Rattle.roster_laws.proofs.Shortfall.{shortfall-off, shortfall-work, no_less, staffing-shortfall}
 use Rattle.roster_laws.proofs.OneRow.{cover-with_row, penalty-with_row}
 use Rattle.roster_offers.specs.declared.offer.Offer.{Offer}
 use Rattle.roster_offers.specs.Cheapest.{Priced, raised}
@@ -41,15 +42,15 @@ use Rattle.roster_offers.proofs.ByShift.{best_by_shift, by_shift_all, by_shift_f
 use Rattle.roster_offers.proofs.Cheapest.{thing_or}
 use Rattle.roster_offers.proofs.ListLaws.{best_over_same}
 use Rattle.roster_offers.proofs.OfferLaws.{offers_few_of}
-use Rattle.roster_worths.specs.Days.{can_do}
+use Rattle.roster_prices.specs.Days.{can_do}
 use Rattle.roster_who.specs.declared.asked.Asked.{Asked}
-use Rattle.roster_who.specs.Offers.{AreTakingOffers, can_take, gain_at, gain_of, gain_with, is_open_for, keeps_places, most_gain, shift_taking_offers, taking_offers, taking_price}
-use Rattle.roster_who.specs.Ways.{last_place, leads_on}
+use Rattle.roster_who.specs.Offers.{AreTakingOffers, can_take, gain_at, gain_of, gain_with, is_open_for, keeps_slots, most_gain, shift_taking_offers, taking_offers, taking_price}
+use Rattle.roster_who.specs.Ways.{last_index, leads_on}
 use Rattle.roster_who.specs.Who.{cost_with, is_asked, is_taking, missed, missed_weight, taking_row, taking_rows}
-use Rattle.roster_who.proofs.RowLemmas.{misses_is, works}
+use Rattle.roster_who.proofs.RowLemmas.{short_is, works}
 use Rattle.roster_who.proofs.WayLemmas.{first_last, leads_some, some_where_leads}
 
--- ---- a number more on all costs changes no first least
+-- ---- adding a number to all costs doesn't change which row is the first of the cheapest
 
 lt_more : (k a b : ℕ) → nat_lt (k + a) (k + b) ≡ nat_lt a b
 lt_more k a b = grind arith
@@ -62,7 +63,7 @@ least_more : {A : Type 0} (k : ℕ) (f : A → ℕ) (xs : List A) → first_leas
 least_more k f [] = refl
 least_more k f (x ∷ xs) = ap (λ o. Some (cheaper_of (λ y. k + f y) x o)) (least_more k f xs) ∙ ap Some (cheaper_more k f x (first_least f xs))
 
--- the first least is one of them
+-- the cheaper of an item and the answer for the others is one of them
 least_from : {A : Type 0} (cost : A → ℕ) (x : A) (xs : List A) (o : Option A) (y : A) → ((z : A) → o ≡ Some z → Contains xs z) → cheaper_of cost x o ≡ y → Contains (x ∷ xs) y
 least_from cost x xs None y later e = (0, omega arith, e)
 least_from cost x xs (Some z) y later e = go (nat_lt (cost z) (cost x)) e
@@ -85,9 +86,9 @@ same_number : (n m : ℕ) → sum_below n (λ k. m) ≡ n * m
 same_number zero m = omega arith
 same_number (suc n) m = grind (arith, same_number n m)
 
--- ---- what a nurse more is good for
+-- ---- the gain of one more nurse
 
--- a shift or a skill that isn't the case's is at no place of it
+-- a shift or a skill that isn't the case's is in no slot of the case
 nowhere : (c : Meaning) (s : Shift) (k : Skill) → is_choice_of c (Work s k) ≡ false → (t l : ℕ) → t < shift_count c → l < skill_count c → ((s.0 == t) && (k.0 == l)) ≡ false
 nowhere c s k outside t l shift_in skill_in = go ((s.0 == t) && (k.0 == l)) refl
   where
@@ -100,12 +101,12 @@ nowhere c s k outside t l shift_in skill_in = go ((s.0 == t) && (k.0 == l)) refl
         let inside : (nat_lt s.0 (shift_count c) && nat_lt k.0 (skill_count c)) ≡ true = ap₂ (λ a b. nat_lt a (shift_count c) && nat_lt b (skill_count c)) shift skill ∙ and_from (nat_lt t (shift_count c)) (nat_lt l (skill_count c)) (grind (arith, shift_in)) (grind (arith, skill_in)) in
         absurd (true≢false (sym inside ∙ outside))
 
-lacking-nowhere : (c : Meaning) (want have : ℕ → ℕ → ℕ) (s : Shift) (k : Skill) → is_choice_of c (Work s k) ≡ false → lacking c want (with_choice have (Work s k)) ≡ lacking c want have
-lacking-nowhere c want have s k outside =
+shortfall-nowhere : (c : Meaning) (want have : ℕ → ℕ → ℕ) (s : Shift) (k : Skill) → is_choice_of c (Work s k) ≡ false → shortfall c want (with_choice have (Work s k)) ≡ shortfall c want have
+shortfall-nowhere c want have s k outside =
     sum_same (shift_count c) _ (λ t. sum_below (skill_count c) (λ l. want t l - have t l))
     (λ t h. sum_same (skill_count c) _ (λ l. want t l - have t l) (λ l g. no_less (want t l) (have t l) ((s.0 == t) && (k.0 == l)) (nowhere c s k outside t l h g)))
 
--- the gain is what is lacking less
+-- the gain is what the shortfall becomes less by
 balance : (mw mo mg lw lo rw ro bw bo q : ℕ) → mw ≡ missed_weight → mo ≡ staffing_weight → mg ≡ most_gain → bw ≤ 1 → bo ≤ 1 → lw + bw ≡ rw → lo + bo ≡ ro
     → ((missed_weight * lw + (staffing_weight * lo + q)) + most_gain) ≡ (missed_weight * rw + staffing_weight * ro) + ((most_gain - (missed_weight * bw + staffing_weight * bo)) + q)
 balance mw mo mg lw lo rw ro bw bo q a b d e f g h = omega arith
@@ -118,22 +119,23 @@ module _ (c : Meaning) (r : Rows) (n d : ℕ) where
   abbrev have : ℕ → ℕ → ℕ
   have = others r n d
 
-  abbrev lacks : ℕ
-  lacks = missed_weight * lacking c (minimum c d) have + staffing_weight * lacking c (optimum c d) have
+  abbrev shortfall_cost : ℕ
+  shortfall_cost = missed_weight * shortfall c (minimum c d) have + staffing_weight * shortfall c (optimum c d) have
 
-  abbrev lacks_with : Choice → ℕ
-  lacks_with x = missed_weight * lacking c (minimum c d) (with_choice have x) + (staffing_weight * lacking c (optimum c d) (with_choice have x) + request_cost_on c n d (shift_of x))
+  abbrev shortfall_with : Choice → ℕ
+  shortfall_with x = missed_weight * shortfall c (minimum c d) (with_choice have x) + (staffing_weight * shortfall c (optimum c d) (with_choice have x) + request_cost_on c n d (shift_of x))
 
-  unchanged : (x : Choice) → ((want : ℕ → ℕ → ℕ) → lacking c want (with_choice have x) ≡ lacking c want have) → gain_of c r n d x ≡ 0 → lacks_with x + most_gain ≡ lacks + taking_price c r n d x
+  unchanged : (x : Choice) → ((want : ℕ → ℕ → ℕ) → shortfall c want (with_choice have x) ≡ shortfall c want have) → gain_of c r n d x ≡ 0 → shortfall_with x + most_gain ≡ shortfall_cost + taking_price c r n d x
   unchanged x same none = omega (arith, same (minimum c d), same (optimum c d), none)
 
-  -- what is lacking with a choice, and the most that a nurse is good for, is what is lacking without, and the price
-  pub price_is : (x : Choice) → lacks_with x + most_gain ≡ lacks + taking_price c r n d x
-  price_is Off = unchanged Off (λ want. lacking-off c want have) refl
+  -- the shortfall with a choice, plus the most that a nurse can gain, is the shortfall without it, plus the
+  -- price
+  pub price_is : (x : Choice) → shortfall_with x + most_gain ≡ shortfall_cost + taking_price c r n d x
+  price_is Off = unchanged Off (λ want. shortfall-off c want have) refl
   price_is (Work s k) = go (is_choice_of c (Work s k)) refl
     where
-      go : (b : Bool) → is_choice_of c (Work s k) ≡ b → lacks_with (Work s k) + most_gain ≡ lacks + taking_price c r n d (Work s k)
-      go false outside = unchanged (Work s k) (λ want. lacking-nowhere c want have s k outside) (ap (λ b. if b then gain_with c r n d (Work s k) else 0) outside)
+      go : (b : Bool) → is_choice_of c (Work s k) ≡ b → shortfall_with (Work s k) + most_gain ≡ shortfall_cost + taking_price c r n d (Work s k)
+      go false outside = unchanged (Work s k) (λ want. shortfall-nowhere c want have s k outside) (ap (λ b. if b then gain_with c r n d (Work s k) else 0) outside)
       go true inside =
           let parts = and_parts (nat_lt s.0 (shift_count c)) (nat_lt k.0 (skill_count c)) inside in
           let shift_in : s.0 < shift_count c = grind (arith, parts) in
@@ -141,12 +143,12 @@ module _ (c : Meaning) (r : Rows) (n d : ℕ) where
           let gain : gain_of c r n d (Work s k) ≡ gain_at c d s.0 k.0 (have s.0 k.0) = ap (λ b. if b then gain_with c r n d (Work s k) else 0) inside in
           balance missed_weight staffing_weight most_gain _ _ _ _ (one_if (nat_lt (have s.0 k.0) (minimum c d s.0 k.0))) (one_if (nat_lt (have s.0 k.0) (optimum c d s.0 k.0))) (request_cost_on c n d (Some s)) refl refl refl
           (one_within (nat_lt (have s.0 k.0) (minimum c d s.0 k.0))) (one_within (nat_lt (have s.0 k.0) (optimum c d s.0 k.0)))
-          (lacking-work c (minimum c d) have s k shift_in skill_in) (lacking-work c (optimum c d) have s k shift_in skill_in)
-          ∙ ap (λ g. lacks + ((most_gain - g) + request_cost_on c n d (Some s))) (sym gain)
+          (shortfall-work c (minimum c d) have s k shift_in skill_in) (shortfall-work c (optimum c d) have s k shift_in skill_in)
+          ∙ ap (λ g. shortfall_cost + ((most_gain - g) + request_cost_on c n d (Some s))) (sym gain)
 
-shift_place : (c : Meaning) (x : Choice) → shift_count c ≤ most_shifts → is_choice_of c x ≡ true → last_place (shift_of x) < 1 + most_shifts
-shift_place c Off shifts is = omega arith
-shift_place c (Work s k) shifts is =
+shift_index : (c : Meaning) (x : Choice) → shift_count c ≤ most_shifts → is_choice_of c x ≡ true → last_index (shift_of x) < 1 + most_shifts
+shift_index c Off shifts is = omega arith
+shift_index c (Work s k) shifts is =
     let parts = and_parts (nat_lt s.0 (shift_count c)) (nat_lt k.0 (skill_count c)) is in
     let inside : s.0 < shift_count c = grind (arith, parts) in
     omega (arith, inside, shifts)
@@ -189,8 +191,8 @@ module _ (c : Meaning) (from : ℕ) (r : Rows) (asked : Asked) (n : ℕ) (fits :
       let stays : ℕ → Bool = λ d. keeps_frozen_day c from r n d (choice_on row d) in
       let does : ℕ → Bool = λ d. can_do c from r n d (choice_on row d) in
       let follows : ℕ → Bool = λ d. not (breaks_succession c n (days_of row) d) in
-      let places : ℕ → Bool = λ d. keeps_places c r n d (choice_on row d) in
-      (λ i. (works c from r n row i && misses_is c r n within row i) && is_asked asked (choice_on row asked.day))
+      let places : ℕ → Bool = λ d. keeps_slots c r n d (choice_on row d) in
+      (λ i. (works c from r n row i && short_is c r n within row i) && is_asked asked (choice_on row asked.day))
       ∙ ap (λ b. (all_below D (λ d. does d && follows d) && all_below D places) && b) (sym (asked_day row))
       ∙ ap (λ b. b && all_below D (asks row)) (sym (all_both D (λ d. does d && follows d) places))
       ∙ sym (all_both D (λ d. (does d && follows d) && places d) (asks row))
@@ -203,27 +205,27 @@ module _ (c : Meaning) (from : ℕ) (r : Rows) (asked : Asked) (n : ℕ) (fits :
   spare = D * most_gain
 
   abbrev base : ℕ
-  base = rest_of c r n + sum_below D (lacks c r n)
+  base = rest_of c r n + sum_below D (shortfall_cost c r n)
 
-  missed_is : (row : Row) → missed c (with_row r n row) ≡ sum_below D (λ d. lacking c (minimum c d) (with_choice (others r n d) (choice_on row d)))
-  missed_is row = λ i. sum_below D (λ d. lacking c (minimum c d) (λ s k. cover-with_row r n within row d s k i))
+  missed_is : (row : Row) → missed c (with_row r n row) ≡ sum_below D (λ d. shortfall c (minimum c d) (with_choice (others r n d) (choice_on row d)))
+  missed_is row = λ i. sum_below D (λ d. shortfall c (minimum c d) (λ s k. cover-with_row r n within row d s k i))
 
-  priced : (row : Row) → length row ≡ D → prices c r n row ≡ sum_below D (λ d. staffing_weight * lacking c (optimum c d) (with_choice (others r n d) (choice_on row d)) + request_cost_on c n d (shift_of (choice_on row d)))
+  priced : (row : Row) → length row ≡ D → prices c r n row ≡ sum_below D (λ d. staffing_weight * shortfall c (optimum c d) (with_choice (others r n d) (choice_on row d)) + request_cost_on c n d (shift_of (choice_on row d)))
   priced row days =
       (λ i. sum_below (days i) (λ d. price c r n d (choice_on row d)))
-      ∙ (λ i. sum_below D (λ d. staffing-lacking c d (with_choice (others r n d) (choice_on row d)) i + request_cost_on c n d (shift_of (choice_on row d))))
+      ∙ (λ i. sum_below D (λ d. staffing-shortfall c d (with_choice (others r n d) (choice_on row d)) i + request_cost_on c n d (shift_of (choice_on row d))))
 
-  days_cost : (row : Row) → sum_below D (λ d. lacks_with c r n d (choice_on row d)) + spare ≡ sum_below D (lacks c r n) + sum_below D (λ d. taking_price c r n d (choice_on row d))
+  days_cost : (row : Row) → sum_below D (λ d. shortfall_with c r n d (choice_on row d)) + spare ≡ sum_below D (shortfall_cost c r n) + sum_below D (λ d. taking_price c r n d (choice_on row d))
   days_cost row =
-      let with_row_on : ℕ → ℕ = λ d. lacks_with c r n d (choice_on row d) in
+      let with_row_on : ℕ → ℕ = λ d. shortfall_with c r n d (choice_on row d) in
       let cost : ℕ → ℕ = λ d. taking_price c r n d (choice_on row d) in
-      let sums : sum_below D (λ d. with_row_on d + most_gain) ≡ sum_below D (λ d. lacks c r n d + cost d) = sum_same D (λ d. with_row_on d + most_gain) (λ d. lacks c r n d + cost d) (λ d h. price_is c r n d (choice_on row d)) in
-      ap (λ m. sum_below D with_row_on + m) (sym (same_number D most_gain)) ∙ sym (sum_both D with_row_on (λ d. most_gain)) ∙ sums ∙ sum_both D (lacks c r n) cost
+      let sums : sum_below D (λ d. with_row_on d + most_gain) ≡ sum_below D (λ d. shortfall_cost c r n d + cost d) = sum_same D (λ d. with_row_on d + most_gain) (λ d. shortfall_cost c r n d + cost d) (λ d h. price_is c r n d (choice_on row d)) in
+      ap (λ m. sum_below D with_row_on + m) (sym (same_number D most_gain)) ∙ sym (sum_both D with_row_on (λ d. most_gain)) ∙ sums ∙ sum_both D (shortfall_cost c r n) cost
 
   costs : (row : Row) → length row ≡ D → spare + cost_with c r n row ≡ base + row_cost_at c n (taking_price c r n) row
   costs row days =
-      let low : ℕ → ℕ = λ d. lacking c (minimum c d) (with_choice (others r n d) (choice_on row d)) in
-      let rest : ℕ → ℕ = λ d. staffing_weight * lacking c (optimum c d) (with_choice (others r n d) (choice_on row d)) + request_cost_on c n d (shift_of (choice_on row d)) in
+      let low : ℕ → ℕ = λ d. shortfall c (minimum c d) (with_choice (others r n d) (choice_on row d)) in
+      let rest : ℕ → ℕ = λ d. staffing_weight * shortfall c (optimum c d) (with_choice (others r n d) (choice_on row d)) + request_cost_on c n d (shift_of (choice_on row d)) in
       let cost : ℕ → ℕ = λ d. taking_price c r n d (choice_on row d) in
       let miss : missed_weight * missed c (with_row r n row) ≡ sum_below D (λ d. missed_weight * low d) = ap (λ m. missed_weight * m) (missed_is row) ∙ sym (scaled missed_weight D low) in
       let all : penalty_with c r n row ≡ rest_of c r n + own_cost c n (days_of row) + sum_below D rest = penalty-with_row r n within row c inside days ∙ ap (λ m. rest_of c r n + own_cost c n (days_of row) + m) (priced row days) in
@@ -283,7 +285,7 @@ module _ (c : Meaning) (from : ℕ) (r : Rows) (asked : Asked) (n : ℕ) (fits :
           let may = and_parts (may_take c n e x) (is_open_for c from r asked n e x) is in
           (and_parts (is_able (nurse_at c n).skills x) (is_here c n e x) may.0).0
 
-  -- ---- over a table of these offers
+  -- ---- a table of these offers
 
   module _ (table : List (ArrayVec Offer)) (are : AreTakingOffers c from r asked n table) where
     same_best : best_over c n (offers_on table) ≡ best
@@ -299,12 +301,12 @@ module _ (c : Meaning) (from : ℕ) (r : Rows) (asked : Asked) (n : ℕ) (fits :
     pub places : c.keep ≤ most_keep → (d : ℕ) → d < D → All (IsOfferOf c) (offers_on table d)
     places small d h = subst (All (IsOfferOf c)) (sym (are.each d h)) (shift_offers_of_case small d)
 
-    -- each shift has its place in a table of last shifts
-    pub places_fit : c.keep ≤ most_keep → shift_count c ≤ most_shifts → (d : ℕ) → d < D → All (λ (offer : Offer). last_place (shift_of offer.choice) < 1 + most_shifts) (offers_on table d)
-    places_fit small shifts d h = All-weaker (IsOfferOf c) (λ (offer : Offer). last_place (shift_of offer.choice) < 1 + most_shifts) (λ offer is. shift_place c offer.choice shifts is.choice) (offers_on table d) (places small d h)
+    -- each shift has its index in a table of last shifts
+    pub indices_fit : c.keep ≤ most_keep → shift_count c ≤ most_shifts → (d : ℕ) → d < D → All (λ (offer : Offer). last_index (shift_of offer.choice) < 1 + most_shifts) (offers_on table d)
+    indices_fit small shifts d h = All-weaker (IsOfferOf c) (λ (offer : Offer). last_index (shift_of offer.choice) < 1 + most_shifts) (λ offer is. shift_index c offer.choice shifts is.choice) (offers_on table d) (places small d h)
 
-    pub none_told : leads ≡ false → taking_row c from r asked n ≡ None
-    none_told e = none_is (taking_row c from r asked n) best best_is (ap is_some (sym same_best) ∙ leads_is ∙ e)
+    pub none_listed : leads ≡ false → taking_row c from r asked n ≡ None
+    none_listed e = none_is (taking_row c from r asked n) best best_is (ap is_some (sym same_best) ∙ leads_is ∙ e)
 
     module _ (e : leads ≡ true) where
       pub some_found : IsSome (best_over c n (offers_on table))
@@ -320,10 +322,10 @@ module _ (c : Meaning) (from : ℕ) (r : Rows) (asked : Asked) (n : ℕ) (fits :
       pub can_search : c.keep ≤ most_keep → AreOffers c n table
       can_search small = record { days = omega (arith, are.days); each = day_offers small }
 
-      pub row_told : (cost : ℕ) (row : Row) → IsFound (best_over c n (offers_on table)) cost row → taking_row c from r asked n ≡ Some row
-      row_told cost row found =
+      pub row_listed : (cost : ℕ) (row : Row) → IsFound (best_over c n (offers_on table)) cost row → taking_row c from r asked n ≡ Some row
+      row_listed cost row found =
           read (taking_row c from r asked n) cost found.offers (best_is ∙ ap (raised (base + due c n []) choices_of) (sym same_best ∙ found.is)) ∙ ap Some (sym found.row_is)
 
-      -- and it is one of the case's
+      -- and the row is one of the case's
       pub row_fits_case : (cost : ℕ) (row : Row) → IsFound (best_over c n (offers_on table)) cost row → is_row_of c row ≡ true
-      row_fits_case cost row found = member_is_row c row (kept_is_member (is_taking c from r asked n) (all_rows (all_choices c) D) row (least_member (cost_with c r n) (taking_rows c from r asked n) row (row_told cost row found)))
+      row_fits_case cost row found = member_is_row c row (kept_is_member (is_taking c from r asked n) (all_rows (all_choices c) D) row (least_member (cost_with c r n) (taking_rows c from r asked n) row (row_listed cost row found)))

@@ -1,4 +1,4 @@
-//! What is asked for.
+//! The assignment that somebody is to take.
 
 ghost use Rattle.std.specs.Prelude.{◌≡◌, ◌<◌, ◌==◌, true};
 ghost use Rattle.std.specs.Option.{option_map_or};
@@ -10,7 +10,8 @@ ghost use Rattle.roster_who.specs.Who.{is_asked};
 
 use roster_instance::{Case, Choice, Roster, Shift, Skill};
 
-/// An assignment that somebody is to take: a shift of a day, with a skill, or with any where none is named.
+/// An assignment that somebody is to take: a shift of a day, with a skill, or with any skill if none is
+/// named.
 #[derive(Clone, Copy, Debug, PartialEq, Eq)]
 pub struct Asked {
     pub day: u16,
@@ -18,8 +19,8 @@ pub struct Asked {
     pub skill: Option<Skill>,
 }
 
-/// What is asked for, and of which roster: one in which absent nurses are off, with how many nurses work at each place of each day. The
-/// frozen days stay.
+/// The question: the assignment, and the roster it is asked of, in which absent nurses are off, with the
+/// cover of each slot of each day. The frozen days stay.
 #[derive(Clone, Copy)]
 pub(crate) struct Asking<'a> {
     pub(crate) case: &'a Case,

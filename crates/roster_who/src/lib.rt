@@ -1,17 +1,18 @@
 //! Who may take a shift.
 //!
-//! A nurse's rows that have an assignment, and what is told of the first least of them, are defined in `specs/Who.antt`, what she is
-//! offered on each day in `specs/Offers.antt`, and whether a row leads through these offers in `specs/Ways.antt`. `find_takers` promises
-//! what is told of each nurse who has such a row, in order, and nothing of the others. `takers_have_allowed_rows` says that for a roster
-//! which keeps the hard rules these rows are the allowed ones that have the assignment, and their cost is the penalty.
+//! `specs/Who.antt` defines a nurse's rows that have an assignment, and what is reported of the first of the
+//! cheapest; `specs/Offers.antt` what she is offered on each day; and `specs/Ways.antt` whether a row leads
+//! through these offers. `find_takers` promises the figures of each nurse who has such a row, in order, and
+//! none of the others. `takers_have_allowed_rows` says that in a roster which keeps the hard rules these rows
+//! are the allowed rows with the assignment, and that their cost is the penalty.
 #![tactic(auto)]
 
 mod asked;
+mod figures;
 mod laws;
 mod offers;
 mod present;
 mod taker;
-mod told;
 mod ways;
 
 pub use asked::Asked;

@@ -8,27 +8,27 @@ ghost use Rattle.roster_laws.specs.OneRow.{others};
 ghost use Rattle.roster_rules.specs.AllowedRows.{is_frozen};
 ghost use Rattle.roster_rules.specs.Penalties.{request_cost_on};
 ghost use Rattle.roster_rules.specs.Weights.{most_request};
-ghost use Rattle.roster_offers.specs.Workspaces.{SameRoom, fits_space};
-ghost use Rattle.roster_who.specs.Offers.{AreTakingOffers, fills, gain_at, gain_of, is_needed, keeps_places, most_gain, offer_if_filling, shift_taking_offers};
+ghost use Rattle.roster_offers.specs.Workspaces.{SameCapacity, fits_space};
+ghost use Rattle.roster_who.specs.Offers.{AreTakingOffers, fills, gain_at, gain_of, is_needed, keeps_slots, most_gain, offer_if_filling, shift_taking_offers};
 
 use crate::asked::{Asking, is_asked};
 use arrayvec::ArrayVec;
-use roster_costs::place;
+use roster_costs::slot;
 use roster_instance::{Choice, Shift, Skill, choice_on};
 use roster_offers::{
-    MOST_OFFERS, NurseDay, Offer, Offering, RowTables, Workspace, offers_by_shift,
+    MOST_OFFERS, NurseDay, Offer, Offering, SearchesRows, Workspace, offers_by_shift,
 };
 use roster_rules::is_frozen;
 use roster_rules::weights::STAFFING;
 
-/// What each nurse who is missed counts in the choice of a row, in points.
+/// What each nurse short of a minimum adds to the cost of a row, in points.
 const MISSED: u32 = 1_000_000;
 
-/// What a nurse more is good for at most.
+/// The greatest gain of one more nurse.
 const MOST_GAIN: u32 = MISSED + STAFFING;
 
-/// Puts the offers of each day, one for each shift, into a workspace in the place of others.
-pub(crate) fn offers_of_days<T: RowTables>(
+/// Puts the offers of each day, one for each shift, into a workspace, and replaces those that were there.
+pub(crate) fn offers_of_days<T: SearchesRows>(
     asking: &Asking<'_>,
     nurse: usize,
     workspace: &mut Workspace<T>,
@@ -37,7 +37,7 @@ pub(crate) fn offers_of_days<T: RowTables>(
     requires fits { fits_space asking.now.case.now workspace.old ≡ true }
     ensures offers { AreTakingOffers asking.now.case.now asking.now.from asking.now.roster.now
         asking.now.asked nurse workspace.new.offers }
-    ensures same_room { SameRoom workspace.old workspace.new }
+    ensures same_capacity { SameCapacity workspace.old workspace.new }
     ensures fits { fits_space asking.now.case.now workspace.new ≡ true }
 {
     asking.case.keeps_limits();
@@ -47,7 +47,7 @@ pub(crate) fn offers_of_days<T: RowTables>(
     }
 }
 
-/// The offers of one day: to be off, and for each shift the cheapest, of equally cheap ones the first.
+/// The offers of one day: to be off, and for each shift the cheapest; among equally cheap ones the first.
 fn offers_of_day(asking: &Asking<'_>, nurse: usize, day: u16) -> ArrayVec<Offer, MOST_OFFERS>
     requires nurse { nurse < nurse_count asking.now.case.now }
     requires day { day < day_count asking.now.case.now }
@@ -59,7 +59,7 @@ fn offers_of_day(asking: &Asking<'_>, nurse: usize, day: u16) -> ArrayVec<Offer,
     offers_by_shift(&NurseDay { case, nurse, day }, &Taking { asking, frozen })
 }
 
-/// What offers a nurse the choices of a day that a row with the assignment may have, each with its price.
+/// Offers the choices of a day that a row with the assignment may have, each with its price.
 #[derive(Clone, Copy)]
 struct Taking<'a> {
     asking: &'a Asking<'a>,
@@ -89,7 +89,8 @@ impl Offering for Taking<'_> {
     }
 }
 
-/// The choice with its price, where a row with the assignment may have it, by what the requests cost with it.
+/// The choice with its price, if a row with the assignment may have it; `requests` is what the nurse's
+/// requests cost with it.
 fn offered(
     asking: &Asking<'_>,
     nurse: usize,
@@ -115,28 +116,30 @@ fn offered(
 
 // ---- which choices are offered
 
-/// Whether no place of the day misses more nurses with the choice, and on the day of the assignment it is that.
+/// Whether with the choice no slot of the day is short by more, and whether on the day of the assignment it
+/// is the assignment.
 fn fills(asking: &Asking<'_>, nurse: usize, day: u16, choice: Choice) -> bool
     requires nurse { nurse < nurse_count asking.now.case.now }
     requires day { day < day_count asking.now.case.now }
     ensures { result ≡ fills asking.now.case.now asking.now.roster.now asking.now.asked nurse day
         choice }
 {
-    keeps_places(asking, nurse, day, choice)
+    keeps_slots(asking, nurse, day, choice)
         && (day != asking.asked.day || is_asked(asking.asked, choice))
 }
 
-/// Whether no place of the day misses more nurses with the choice: who is needed where she works stays there.
-fn keeps_places(asking: &Asking<'_>, nurse: usize, day: u16, choice: Choice) -> bool
+/// Whether with the choice no slot of the day is short by more: a nurse who is needed where she works stays
+/// there.
+fn keeps_slots(asking: &Asking<'_>, nurse: usize, day: u16, choice: Choice) -> bool
     requires nurse { nurse < nurse_count asking.now.case.now }
     requires day { day < day_count asking.now.case.now }
-    ensures { result ≡ keeps_places asking.now.case.now asking.now.roster.now nurse day choice }
+    ensures { result ≡ keeps_slots asking.now.case.now asking.now.roster.now nurse day choice }
 {
     let present = choice_on(asking.roster.row(nurse), day);
     !is_needed(asking, day, present) || choice == present
 }
 
-/// Whether no more nurses work at the place of a choice than its minimum needs.
+/// Whether the slot of a choice has no more nurses than its minimum.
 fn is_needed(asking: &Asking<'_>, day: u16, choice: Choice) -> bool
     requires day { day < day_count asking.now.case.now }
     requires choice { is_choice_of asking.now.case.now choice ≡ true }
@@ -151,9 +154,9 @@ fn is_needed(asking: &Asking<'_>, day: u16, choice: Choice) -> bool
     }
 }
 
-// ---- at what prices
+// ---- their prices
 
-/// What the nurse is good for with a choice, in points.
+/// The nurse's gain with a choice, in points.
 fn gain_of(asking: &Asking<'_>, nurse: usize, day: u16, choice: Choice) -> u32
     requires nurse { nurse < nurse_count asking.now.case.now }
     requires day { day < day_count asking.now.case.now }
@@ -170,7 +173,7 @@ fn gain_of(asking: &Asking<'_>, nurse: usize, day: u16, choice: Choice) -> u32
     }
 }
 
-/// What a nurse more is good for where so many work a shift with a skill.
+/// The gain of one more nurse in a slot with this cover.
 fn gain_at(asking: &Asking<'_>, day: u16, shift: Shift, skill: Skill, have: u16) -> u32
     ensures gain { result ≡ gain_at asking.now.case.now day shift.0 skill.0 have }
     ensures within { result ≤ most_gain }
@@ -179,7 +182,7 @@ fn gain_at(asking: &Asking<'_>, day: u16, shift: Shift, skill: Skill, have: u16)
     MISSED * (have < need.minimum) as u32 + STAFFING * (have < need.optimum) as u32
 }
 
-/// How many of the other nurses work a shift with a skill on a day.
+/// How many of the other nurses work in a slot.
 fn others(asking: &Asking<'_>, nurse: usize, day: u16, shift: Shift, skill: Skill) -> u16
     requires nurse { nurse < nurse_count asking.now.case.now }
     requires day { day < day_count asking.now.case.now }
@@ -191,7 +194,7 @@ fn others(asking: &Asking<'_>, nurse: usize, day: u16, shift: Shift, skill: Skil
     cover(asking, day, shift, skill) - own as u16
 }
 
-/// How many nurses work a shift with a skill on a day.
+/// How many nurses work in a slot.
 fn cover(asking: &Asking<'_>, day: u16, shift: Shift, skill: Skill) -> u16
     requires day { day < day_count asking.now.case.now }
     requires shift { shift.0 < shift_count asking.now.case.now }
@@ -199,5 +202,5 @@ fn cover(asking: &Asking<'_>, day: u16, shift: Shift, skill: Skill) -> u16
     ensures { result ≡ cover asking.now.roster.now day shift.0 skill.0 }
 {
     asking.case.keeps_limits();
-    asking.covers[day as usize][place(shift, skill)]
+    asking.covers[day as usize][slot(shift, skill)]
 }

@@ -1,4 +1,4 @@
-//! The roster without the work of absent nurses, and how many nurses it has at each place.
+//! The roster without the work of absent nurses, and the cover of each of its slots.
 
 ghost use Rattle.std.specs.Prelude.{◌≡◌, ◌<◌, true, IfOk, if◌then◌else◌, length, map};
 ghost use Rattle.std.specs.List.{range_with_len};
@@ -12,7 +12,8 @@ use roster_costs::covers;
 use roster_instance::{Case, Choice, Roster, choice_on};
 use std::alloc::{AllocError, Global};
 
-/// A copy of a roster in which who is absent is off, by a growth for the list, one for each nurse, and one more.
+/// A copy of a roster in which absent nurses are off. It takes an allocation for the list, one for each
+/// nurse, and one more.
 pub(crate) fn without_absent_work(
     alloc: Global,
     case: &Case,
@@ -31,11 +32,12 @@ pub(crate) fn without_absent_work(
     Ok(present)
 }
 
-/// Puts what a nurse does where she isn't absent in the place of a row.
+/// Writes a nurse's row into `row`, with the nurse off on the days of her absence.
 fn put_here(case: &Case, nurse: usize, given: &[Choice], row: &mut [Choice])
     requires nurse { nurse < nurse_count case.now }
     requires days { length row.old ≡ day_count case.now }
-    ensures { row.new ≡ map (λ d. if is_absent case.now nurse d then Off else choice_on given.now d) (range_with_len 0 (day_count case.now)) }
+    ensures { row.new ≡ map (λ d. if is_absent case.now nurse d then Off else choice_on given.now d)
+        (range_with_len 0 (day_count case.now)) }
 {
     for day in 0..case.days() {
         row[day as usize] = if case.is_absent(nurse, day) {
@@ -46,7 +48,7 @@ fn put_here(case: &Case, nurse: usize, given: &[Choice], row: &mut [Choice])
     }
 }
 
-/// How many nurses work each shift with each skill, day by day, by one growth.
+/// The cover of each slot, day by day, with one allocation.
 pub(crate) fn covers_of_days(
     alloc: Global,
     case: &Case,

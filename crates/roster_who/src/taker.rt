@@ -10,17 +10,18 @@ ghost use Rattle.roster_offers.specs.Workspaces.{fits_space};
 ghost use Rattle.roster_who.specs.Who.{AreInOrder, missed, taker, takers, without_absent_work};
 
 use crate::asked::{Asked, Asking};
+use crate::figures::{missed, taker_by};
 use crate::offers::offers_of_days;
 use crate::present::{covers_of_days, without_absent_work};
-use crate::told::{missed, taker_by};
 use crate::ways::leads_through;
 use roster_instance::{Case, Roster};
-use roster_offers::{BestFault, RowTables, Workspace};
+use roster_offers::{BestFault, SearchesRows, Workspace};
 use roster_state::Meter;
 use std::alloc::{AllocError, Global};
 
-/// What is told of a nurse who may take an assignment, with her row that has it: how many nurses the minimums of the roster still miss
-/// then, the roster's penalty, and on how many days the row is another choice than her present one.
+/// A nurse who may take an assignment, and the figures of her row that has it: by how many nurses the roster
+/// then falls short of its minimums, the roster's penalty, and on how many days the row has another choice
+/// than her present one.
 #[derive(Clone, Copy, Debug, PartialEq, Eq)]
 pub struct Taker {
     pub nurse: usize,
@@ -29,21 +30,22 @@ pub struct Taker {
     pub changed: u16,
 }
 
-/// Who may take an assignment, and how many nurses the minimums of the roster miss before anyone does.
+/// Who may take an assignment, and by how many nurses the roster falls short of its minimums before anyone
+/// does.
 #[derive(Drop)]
 pub struct Takers {
     pub missed: u64,
     pub listed: Vec<Taker>,
 }
 
-/// Finds who may take an assignment: each nurse who has a row with it, with the first least of these rows. The frozen
-/// days stay. The roster may miss minimums, and what absent nurses work in it isn't counted. The meter counts as for `best_row`, for each
-/// nurse.
+/// Finds who may take an assignment: each nurse who has a row with it, with the first of the cheapest of
+/// these rows. The frozen days stay. The roster may fall short of its minimums, and the work of absent nurses
+/// in it isn't counted. The meter counts as for `best_row`, for each nurse.
 ///
 /// # Errors
 ///
-/// A growth was refused.
-pub fn find_takers<T: RowTables>(
+/// An allocation was refused.
+pub fn find_takers<T: SearchesRows>(
     alloc: Global,
     case: &Case,
     roster: &Roster,
@@ -56,8 +58,8 @@ pub fn find_takers<T: RowTables>(
     requires room { meter.old + nurse_count case.now * greatest_extension_count
         case.now ≤ greatest_u64 }
 
-    // Each number is that of her first least row, a nurse without such a row isn't told of, and the fewest missed come first, then the
-    // least penalty, then who comes first in the scenario.
+    // The figures are those of each nurse's first cheapest row, and a nurse without such a row isn't listed.
+    // The smallest shortfall comes first, then the least penalty, then the order of the scenario.
     ensures takers { IfOk result (λ found. AreInOrder (takers case.now from
         (without_absent_work case.now roster.now) asked) found.listed.items) }
     ensures missed { IfOk result (λ found. found.missed ≡ missed case.now
@@ -84,8 +86,8 @@ pub fn find_takers<T: RowTables>(
     })
 }
 
-/// All who may take it, in the order of the scenario, by one growth.
-fn all_takers<T: RowTables>(
+/// All who may take the assignment, in the order of the scenario, with one allocation.
+fn all_takers<T: SearchesRows>(
     alloc: Global,
     asking: &Asking<'_>,
     trial: &mut Roster,
@@ -96,30 +98,30 @@ fn all_takers<T: RowTables>(
     requires trial { trial.old ≡ asking.now.roster.now }
     requires room { meter.old + nurse_count asking.now.case.now * greatest_extension_count
         asking.now.case.now ≤ greatest_u64 }
-    ensures takers { IfOk result (λ told. told.items ≡ takers asking.now.case.now asking.now.from
-        asking.now.roster.now asking.now.asked) }
+    ensures takers { IfOk result (λ gathered. gathered.items ≡ takers asking.now.case.now
+        asking.now.from asking.now.roster.now asking.now.asked) }
     ensures counted { meter.new ≤ meter.old + nurse_count asking.now.case.now
         * greatest_extension_count asking.now.case.now }
 {
-    let mut told = Vec::with_capacity(alloc, asking.case.nurses())?;
+    let mut gathered = Vec::with_capacity(alloc, asking.case.nurses())?;
     for nurse in 0..asking.case.nurses() {
         let taker = taker_of(asking, nurse, trial, workspace, meter);
-        push_some(&mut told, taker)?;
+        push_some(&mut gathered, taker)?;
     }
-    Ok(told)
+    Ok(gathered)
 }
 
-fn push_some(told: &mut Vec<Taker>, taker: Option<Taker>) -> Result<(), AllocError>
-    ensures { OnOk result (told.new.items ≡ told.old.items ++ option_to_list taker) }
+fn push_some(gathered: &mut Vec<Taker>, taker: Option<Taker>) -> Result<(), AllocError>
+    ensures { OnOk result (gathered.new.items ≡ gathered.old.items ++ option_to_list taker) }
 {
     if let Some(taker) = taker {
-        told.push(taker)?;
+        gathered.push(taker)?;
     }
     Ok(())
 }
 
-/// What is told of a nurse, if she has a row with the assignment.
-fn taker_of<T: RowTables>(
+/// The figures of a nurse, if she has a row with the assignment.
+fn taker_of<T: SearchesRows>(
     asking: &Asking<'_>,
     nurse: usize,
     trial: &mut Roster,

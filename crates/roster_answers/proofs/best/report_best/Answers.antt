@@ -15,7 +15,7 @@ use Rattle.roster_answers.proofs.BestLemmas.{known, numbered, unknown}
 use Rattle.roster_answers.proofs.best.report_best.Goals as goal
 
 pub returns-in-Some-first_hard-clause-ends : goal.returns-in-Some-first_hard-clause-ends
-returns-in-Some-first_hard-clause-ends g c = record { ends = (sym c.in-Some-first_hard.ensures, c.names_of.ensures); left = refl }
+returns-in-Some-first_hard-clause-ends g c = record { ends = (sym c.in-Some-first_hard.ensures, c.into_case.ensures); left = refl }
 
 pub returns-in_default-clause-ends : goal.returns-in_default-clause-ends
 returns-in_default-clause-ends g c =
@@ -26,15 +26,15 @@ pub returns-in_err-held-clause-ends : goal.returns-in_err-held-clause-ends
 returns-in_err-held-clause-ends g c =
     let output : Output g.row.Out.Denot = record { contents = g.Out.Write.contents; before = c.args.output.now; after = c.args.output.now } in
     let f = c.in_err-held.field-0.0 in
-    let unheld = subst (λ (m : Meaning). IsUnheld c.args.source.now c.args.instance.bundle (hard_faults m c.args.instance.roster) f) c.new-meter.ensures.same c.in_err-held.ensures.unheld in
+    let unheld = subst (λ (m : Meaning). IsUnheld m (hard_faults m c.args.instance.roster) f) c.new-meter.ensures.same c.in_err-held.ensures.unheld in
     let p = err_from_is_err_and c.from_residual.result c.from_residual.ensures.1 in
-    rw (p.1, p.2) (unheld_ends output (best_report c.args.name.now c.args.from c.args.instance.case c.args.instance.roster) c.args.source.now c.args.instance.bundle f refl refl (known c.args.instance.case c.args.name.now c.in-Some.nurse c.in-Some.ensures.found) unheld refl)
+    rw (p.1, p.2) (unheld_ends output (best_report c.args.name.now c.args.from c.args.instance.case c.args.instance.roster) c.args.instance.case f refl refl (known c.args.instance.case c.args.name.now c.in-Some.nurse c.in-Some.ensures.found) unheld refl)
 
 pub returns-in_err-held-clause-logged : goal.returns-in_err-held-clause-logged
 returns-in_err-held-clause-logged g c =
     let log : Output g.row.Log.Denot = record { contents = g.Log.Write.contents; before = c.args.log.now; after = c.args.log.now } in
     let p = err_from_is_err_and c.from_residual.result c.from_residual.ensures.1 in
-    rw (p.1, p.2) (unheld_log log (best_report c.args.name.now c.args.from c.args.instance.case c.args.instance.roster).log c.args.source.now c.args.instance.bundle _ c.in_err-held.field-0.0 c.in_err-held.ensures.unheld refl)
+    rw (p.1, p.2) (unheld_log log (best_report c.args.name.now c.args.from c.args.instance.case c.args.instance.roster).log _ _ c.in_err-held.field-0.0 c.in_err-held.ensures.unheld refl)
 
 pub returns-in_default-for_case-clause-ends : goal.returns-in_default-for_case-clause-ends
 returns-in_default-for_case-clause-ends g c =
@@ -73,7 +73,7 @@ returns-in-Ok-put_best_row-clause-ends g c =
     let shown = c.show_weeks.result in
     let ok = subst (λ text. OnOk shown (Writes g.Out.Write.contents c.args.output.now c.show_weeks.new.output text)) text_is c.show_weeks.ensures.ok in
     let err = subst (λ text. IfErr shown (StopsOutput g.Out.Write.contents c.args.output.now c.show_weeks.new.output text)) text_is c.show_weeks.ensures.err in
-    written_ends output (best_report c.args.name.now c.args.from c.args.instance.case c.args.instance.roster) c.args.source.now c.args.instance.bundle shown (record { kept = kept; found = refl; known = known case c.args.name.now nurse c.in-Some.ensures.found }) ok err
+    written_ends output (best_report c.args.name.now c.args.from c.args.instance.case c.args.instance.roster) c.args.instance.case shown (record { kept = kept; found = refl; known = known case c.args.name.now nurse c.in-Some.ensures.found }) ok err
 
 pub returns-in-Ok-put_best_row-clause-logged : goal.returns-in-Ok-put_best_row-clause-logged
 returns-in-Ok-put_best_row-clause-logged g c =

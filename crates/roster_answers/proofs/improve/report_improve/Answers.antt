@@ -16,9 +16,9 @@ pub returns-in_err-held-clause-ends : goal.returns-in_err-held-clause-ends
 returns-in_err-held-clause-ends g c =
     let output : Output g.row.Out.Denot = record { contents = g.Out.Write.contents; before = c.args.output.now; after = c.args.output.now } in
     let f = c.in_err-held.field-0.0 in
-    let unheld = subst (λ (m : Meaning). IsUnheld c.args.source.now c.args.instance.bundle (hard_faults m c.args.instance.roster) f) c.new-meter.ensures.same c.in_err-held.ensures.unheld in
+    let unheld = subst (λ (m : Meaning). IsUnheld m (hard_faults m c.args.instance.roster) f) c.new-meter.ensures.same c.in_err-held.ensures.unheld in
     let p = err_from_is_err_and c.from_residual.result c.from_residual.ensures.1 in
-    rw (p.1, p.2) (unheld_ends output (improve_report c.args.rounds c.args.from c.args.instance.case c.args.instance.roster) c.args.source.now c.args.instance.bundle f refl refl refl unheld refl)
+    rw (p.1, p.2) (unheld_ends output (improve_report c.args.rounds c.args.from c.args.instance.case c.args.instance.roster) c.args.instance.case f refl refl refl unheld refl)
 
 pub returns-in_err-held-clause-logged : goal.returns-in_err-held-clause-logged
 returns-in_err-held-clause-logged g c =
@@ -26,7 +26,7 @@ returns-in_err-held-clause-logged g c =
     let r = c.args.instance.roster in
     let f = c.in_err-held.field-0.0 in
     let p = err_from_is_err_and c.from_residual.result c.from_residual.ensures.1 in
-    rw (p.1, p.2) (unheld_log log (improve_report c.args.rounds c.args.from c.args.instance.case r).log c.args.source.now c.args.instance.bundle _ f c.in_err-held.ensures.unheld refl)
+    rw (p.1, p.2) (unheld_log log (improve_report c.args.rounds c.args.from c.args.instance.case r).log _ _ f c.in_err-held.ensures.unheld refl)
 
 pub returns-in_default-clause-ends : goal.returns-in_default-clause-ends
 returns-in_default-clause-ends g c =
@@ -47,7 +47,7 @@ returns-in-Ok-improve-clause-ends g c =
     let shown = c.show_weeks.result in
     let ok = subst (λ text. OnOk shown (Writes g.Out.Write.contents c.args.output.now c.show_weeks.new.output text)) text_is c.show_weeks.ensures.ok in
     let err = subst (λ text. IfErr shown (StopsOutput g.Out.Write.contents c.args.output.now c.show_weeks.new.output text)) text_is c.show_weeks.ensures.err in
-    written_ends output (improve_report c.args.rounds c.args.from c.args.instance.case c.args.instance.roster) c.args.source.now c.args.instance.bundle shown (record { kept = kept; found = refl; known = refl }) ok err
+    written_ends output (improve_report c.args.rounds c.args.from c.args.instance.case c.args.instance.roster) c.args.instance.case shown (record { kept = kept; found = refl; known = refl }) ok err
 
 pub returns-in-Ok-improve-clause-logged : goal.returns-in-Ok-improve-clause-logged
 returns-in-Ok-improve-clause-logged g c =
@@ -67,5 +67,5 @@ pub returns-clause-logged : goal.returns-clause-logged
 returns-clause-logged g c =
     let of_case : Meaning → HeldRoster = λ m. record { case = m; roster = c.args.instance.roster } in
     let held = c.in_ok-held.ensures.held ∙ ap of_case c.new-meter.ensures.same in
-    let told = c.in-Err-LogFailed.ensures.err in
-    subst (λ (h : HeldRoster). Stops g.Log.Write.contents c.args.log.now c.improve.new.log (run_log h.case c.args.rounds c.args.from h.roster)) held (record { sent = told.sent; stops = told.stops.stops })
+    let broken = c.in-Err-LogFailed.ensures.err in
+    subst (λ (h : HeldRoster). Stops g.Log.Write.contents c.args.log.now c.improve.new.log (run_log h.case c.args.rounds c.args.from h.roster)) held (record { sent = broken.sent; stops = broken.stops.stops })

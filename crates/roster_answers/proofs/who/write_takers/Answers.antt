@@ -16,23 +16,23 @@ returns-in_err-write_line-clause-err g c =
     let contents = g.Out.Write.contents in
     let line = who_line c.args.case.now c.args.takers.now.missed in
     let xs = c.args.takers.now.listed.items in
-    let i = c.loop-place.place in
-    let inside : i < length xs = omega (arith, c.loop-place-test.true, c.as_slice-listed.ensures.len, c.loop-place.auto.place-end) in
-    let stops = Stops-after contents c.args.output.now c.loop-place.output c.write_line.new.output (flat_map line (take i xs)) (line (get_or c.as_slice-listed.result.now i nobody)) c.loop-place.invariant
-    (Stops-from_in contents c.loop-place.output c.write_line.new.output (line (get_or c.as_slice-listed.result.now i nobody)) _ c.in_err-write_line.ensures.err) in
+    let i = c.loop-index.index in
+    let inside : i < length xs = omega (arith, c.loop-index-test.true, c.as_slice-listed.ensures.len, c.loop-index.auto.index-end) in
+    let stops = Stops-after contents c.args.output.now c.loop-index.output c.write_line.new.output (flat_map line (take i xs)) (line (get_or c.as_slice-listed.result.now i nobody)) c.loop-index.invariant
+    (Stops-from_in contents c.loop-index.output c.write_line.new.output (line (get_or c.as_slice-listed.result.now i nobody)) _ c.in_err-write_line.ensures.err) in
     let of_list = subst (λ (ys : List Taker). Stops contents c.args.output.now c.write_line.new.output (flat_map line (take i xs) ++ line (get_or ys i nobody))) c.as_slice-listed.ensures.value stops in
     OnErr-always c.from_residual.result _
     (subst (Stops contents c.args.output.now c.write_line.new.output) (sym (lines_split line xs i nobody inside))
     (Stops-append contents c.args.output.now c.write_line.new.output _ (flat_map line (drop (i + 1) xs)) of_list))
 
-pub loop-place-preserved : goal.loop-place-preserved
+pub loop-index-preserved : goal.loop-index-preserved
 unfolding nobody
-loop-place-preserved g c =
+loop-index-preserved g c =
     let contents = g.Out.Write.contents in
     let line = who_line c.args.case.now c.args.takers.now.missed in
     let xs = c.args.takers.now.listed.items in
-    let i = c.loop-place.place in
-    let inside : i < length xs = omega (arith, c.loop-place-test.true, c.as_slice-listed.ensures.len, c.loop-place.auto.place-end) in
-    let written = Writes-append contents c.args.output.now c.loop-place.output c.write_line.new.output (flat_map line (take i xs)) (line (get_or c.as_slice-listed.result.now i nobody)) c.loop-place.invariant c.in_ok-write_line.ensures.ok in
+    let i = c.loop-index.index in
+    let inside : i < length xs = omega (arith, c.loop-index-test.true, c.as_slice-listed.ensures.len, c.loop-index.auto.index-end) in
+    let written = Writes-append contents c.args.output.now c.loop-index.output c.write_line.new.output (flat_map line (take i xs)) (line (get_or c.as_slice-listed.result.now i nobody)) c.loop-index.invariant c.in_ok-write_line.ensures.ok in
     let of_list = subst (λ (ys : List Taker). Writes contents c.args.output.now c.write_line.new.output (flat_map line (take i xs) ++ line (get_or ys i nobody))) c.as_slice-listed.ensures.value written in
     subst (Writes contents c.args.output.now c.write_line.new.output) (sym (lines_more line xs i nobody inside)) of_list

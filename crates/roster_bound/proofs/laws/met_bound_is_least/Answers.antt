@@ -1,5 +1,5 @@
 use Rattle.std.proofs.Common.{subst}
-use Rattle.roster_worths.specs.Worths.{IsLowerBound}
+use Rattle.roster_prices.specs.LowerBounds.{IsLowerBound}
 use Rattle.roster_bound.proofs.laws.met_bound_is_least.Goals as goal
 
 pub returns : goal.returns

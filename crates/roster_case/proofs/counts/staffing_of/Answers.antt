@@ -6,15 +6,15 @@ use Rattle.roster_instance.specs.Counting.{sum_below}
 use Rattle.roster_rules.specs.Penalties.{staffing_cost_of_day}
 use Rattle.roster_rules.proofs.CountLemmas.{sum_more}
 use Rattle.roster_rules.specs.Weights.{staffing_weight}
-use Rattle.roster_laws.proofs.Lacking.{staffing-lacking}
+use Rattle.roster_laws.proofs.Shortfall.{staffing-shortfall}
 use Rattle.roster_case.specs.declared.counts.DayCounts.{DayCounts}
 use Rattle.roster_case.specs.Held.{IsDay, no_day}
 use Rattle.roster_case.proofs.PushLemmas.{each_more}
 use Rattle.roster_case.proofs.counts.staffing_of.Goals as goal
 
--- what the day's staffing costs is so many points for each nurse that is lacking
-divided : (cost lacking : ℕ) → cost ≡ staffing_weight * lacking → cost / staffing_weight ≡ lacking
-divided cost lacking is = omega (arith, is)
+-- the day's staffing costs the weight for each nurse short of an optimum
+divided : (cost shortfall : ℕ) → cost ≡ staffing_weight * shortfall → cost / staffing_weight ≡ shortfall
+divided cost shortfall is = omega (arith, is)
 
 pub overflow_add-cost : goal.overflow_add-cost
 overflow_add-cost c =
@@ -29,10 +29,10 @@ loop-day-preserved c =
     let day = c.loop-day.day in
     let table = c.covers-covers.result in
     let cost = c.staffing_cost_of_day-cost_of_day.ensures.cost (cover roster day) c.covers-covers.ensures in
-    let counts : DayCounts = record { covers = table; lacking = c.staffing_cost_of_day-cost_of_day.result / staffing_weight } in
+    let counts : DayCounts = record { covers = table; shortfall = c.staffing_cost_of_day-cost_of_day.result / staffing_weight } in
     rw c.in_ok-push.ensures.items (record {
       days = length_push days counts ∙ ap (λ n. n + 1) c.loop-day.invariant.days;
-      counted = each_more (IsDay case roster) days counts no_day day c.loop-day.invariant.days c.loop-day.invariant.counted (record { covers = c.covers-covers.ensures; lacks = divided _ _ (cost ∙ staffing-lacking case day (cover roster day)) });
+      counted = each_more (IsDay case roster) days counts no_day day c.loop-day.invariant.days c.loop-day.invariant.counted (record { covers = c.covers-covers.ensures; is_short = divided _ _ (cost ∙ staffing-shortfall case day (cover roster day)) });
       cost_is = sum_more (staffing_cost_of_day case roster) day _ _ c.loop-day.invariant.cost_is cost;
       within = omega (arith, c.loop-day.invariant.within, c.staffing_cost_of_day-cost_of_day.ensures.within);
     })

@@ -11,23 +11,23 @@ returns-in-Show g c =
     let output : Output g.row.Out.Denot = record { contents = g.Out.Write.contents; before = c.args.output.now; after = c.show_weeks.new.output } in
     let log : Output g.row.Log.Denot = record { contents = g.Log.Write.contents; before = c.args.log.now; after = c.args.log.now } in
     let p = plain (weeks_text c.args.instance.case c.args.instance.roster) in
-    let e = plain_ends output (weeks_text c.args.instance.case c.args.instance.roster) c.args.source.now c.args.instance.bundle c.show_weeks.result c.show_weeks.ensures.ok c.show_weeks.ensures.err in
-    record { report = p; is = subst (λ x. IsReportIn x c.args.instance.case c.args.instance.roster p) (sym c.in-Show.is) refl; ends = e; logged = silent_log output log p c.args.source.now c.args.instance.bundle (outcome_of c.show_weeks.result) refl e refl }
+    let e = plain_ends output (weeks_text c.args.instance.case c.args.instance.roster) c.args.instance.case c.show_weeks.result c.show_weeks.ensures.ok c.show_weeks.ensures.err in
+    record { report = p; is = subst (λ x. IsReportIn x c.args.instance.case c.args.instance.roster p) (sym c.in-Show.is) refl; ends = e; logged = silent_log output log p c.args.instance.case (outcome_of c.show_weeks.result) refl e refl }
 
 pub returns-in-Cost : goal.returns-in-Cost
 returns-in-Cost g c =
     let output : Output g.row.Out.Denot = record { contents = g.Out.Write.contents; before = c.args.output.now; after = c.report_cost.new.output } in
     let log : Output g.row.Log.Denot = record { contents = g.Log.Write.contents; before = c.args.log.now; after = c.args.log.now } in
     let p = cost_report c.args.instance.case c.args.instance.roster in
-    record { report = p; is = subst (λ x. IsReportIn x c.args.instance.case c.args.instance.roster p) (sym c.in-Cost.is) refl; ends = c.report_cost.ensures.ends; logged = silent_log output log p c.args.source.now c.args.instance.bundle (outcome_of c.report_cost.result) refl c.report_cost.ensures.ends refl }
+    record { report = p; is = subst (λ x. IsReportIn x c.args.instance.case c.args.instance.roster p) (sym c.in-Cost.is) refl; ends = c.report_cost.ensures.ends; logged = silent_log output log p c.args.instance.case (outcome_of c.report_cost.result) refl c.report_cost.ensures.ends refl }
 
 pub returns-in-Sizes : goal.returns-in-Sizes
 returns-in-Sizes g c =
     let output : Output g.row.Out.Denot = record { contents = g.Out.Write.contents; before = c.args.output.now; after = c.report_sizes.new.output } in
     let log : Output g.row.Log.Denot = record { contents = g.Log.Write.contents; before = c.args.log.now; after = c.args.log.now } in
     let p = plain (sizes_text c.args.instance.case) in
-    let e = plain_ends output (sizes_text c.args.instance.case) c.args.source.now c.args.instance.bundle c.report_sizes.result c.report_sizes.ensures.ok c.report_sizes.ensures.err in
-    record { report = p; is = subst (λ x. IsReportIn x c.args.instance.case c.args.instance.roster p) (sym c.in-Sizes.is) refl; ends = e; logged = silent_log output log p c.args.source.now c.args.instance.bundle (outcome_of c.report_sizes.result) refl e refl }
+    let e = plain_ends output (sizes_text c.args.instance.case) c.args.instance.case c.report_sizes.result c.report_sizes.ensures.ok c.report_sizes.ensures.err in
+    record { report = p; is = subst (λ x. IsReportIn x c.args.instance.case c.args.instance.roster p) (sym c.in-Sizes.is) refl; ends = e; logged = silent_log output log p c.args.instance.case (outcome_of c.report_sizes.result) refl e refl }
 
 pub returns-in-Best : goal.returns-in-Best
 returns-in-Best g c =
@@ -75,5 +75,5 @@ returns g c =
       report = made.report;
       is = subst (λ x. IsReportIn x c.args.instance.case c.args.instance.roster made.report) (sym c.in-Who.is) named;
       ends = made.ends;
-      logged = silent_log output log made.report c.args.source.now c.args.instance.bundle (outcome_of c.report_who.result) (ap (λ p. p.log) made.is.is) made.ends refl;
+      logged = silent_log output log made.report c.args.instance.case (outcome_of c.report_who.result) (ap (λ p. p.log) made.is.is) made.ends refl;
     }

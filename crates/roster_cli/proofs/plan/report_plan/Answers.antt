@@ -8,7 +8,7 @@ use Rattle.roster_rules.specs.HardRules.{hard_faults}
 use Rattle.roster_rules.proofs.HardLemmas.{none_of-none}
 use Rattle.roster_instance.specs.Meaning.{Meaning}
 use Rattle.roster_instance.specs.Rosters.{Rows, fits_case}
-use Rattle.roster_costs.specs.Unmendable.{unmendable}
+use Rattle.roster_costs.specs.Irreparable.{irreparable}
 use Rattle.roster_costs.specs.Minimums.{missing}
 use Rattle.roster_polish.specs.Plans.{IsPlanned}
 use Rattle.roster_polish.specs.Polished.{PolishLogStops, Polishes}
@@ -25,22 +25,22 @@ pub returns-in-Some : goal.returns-in-Some
 returns-in-Some g c =
     let output : Output g.row.Out.Denot = record { contents = g.Out.Write.contents; before = c.args.output.now; after = c.args.output.now } in
     let log : Output g.row.Log.Denot = record { contents = g.Log.Write.contents; before = c.args.log.now; after = c.args.log.now } in
-    plan_refused c.args.course.now.searches c.args.course.now.from c.args.course.now.kicks_alone c.args.instance.case c.args.instance.roster output log c.args.source.now c.args.instance.bundle (fault.Hard c.in-Some.fault c.names_of.result) (sym c.in-Some.ensures, c.names_of.ensures) refl refl
+    plan_refused c.args.course.now.searches c.args.course.now.from c.args.course.now.kicks_alone c.args.instance.case c.args.instance.roster output log (fault.Hard c.in-Some.fault c.into_case.result) (sym c.in-Some.ensures, c.into_case.ensures) refl refl
 
--- nothing in the frozen weeks is beyond mending
-mendable : (g : given.Over) (c : After-new-meter g) → unmendable c.args.instance.case c.args.course.now.from c.args.instance.roster ≡ []
-mendable g c = none_of-none (unmendable c.args.instance.case c.args.course.now.from c.args.instance.roster) (sym c.first_unmendable.ensures ∙ c.in_default.is)
+-- nothing in the frozen weeks is beyond repair
+repairable : (g : given.Over) (c : After-new-meter g) → irreparable c.args.instance.case c.args.course.now.from c.args.instance.roster ≡ []
+repairable g c = none_of-none (irreparable c.args.instance.case c.args.course.now.from c.args.instance.roster) (sym c.first_irreparable.ensures ∙ c.in_default.is)
 
 pub returns-in_default-for_roster : goal.returns-in_default-for_roster
 returns-in_default-for_roster g c =
     let output : Output g.row.Out.Denot = record { contents = g.Out.Write.contents; before = c.args.output.now; after = c.args.output.now } in
     let log : Output g.row.Log.Denot = record { contents = g.Log.Write.contents; before = c.args.log.now; after = c.args.log.now } in
-    plan_roomless c.args.course.now.searches c.args.course.now.from c.args.course.now.kicks_alone c.args.instance.case c.args.instance.roster output log c.args.source.now c.args.instance.bundle
-    (mendable g (goal.at.returns-in_default-for_roster g c).After-new-meter) refl refl
+    plan_roomless c.args.course.now.searches c.args.course.now.from c.args.course.now.kicks_alone c.args.instance.case c.args.instance.roster output log
+    (repairable g (goal.at.returns-in_default-for_roster g c).After-new-meter) refl refl
 
-pub find_roster-left-requires-clause-mendable : goal.find_roster-left-requires-clause-mendable
-find_roster-left-requires-clause-mendable g c =
-    rw (c.new-meter.ensures.same, ap (λ (x : Course). x.from) c.within_room-course.ensures) (mendable g (goal.at.find_roster-left-requires-clause-mendable g c).After-new-meter)
+pub find_roster-left-requires-clause-repairable : goal.find_roster-left-requires-clause-repairable
+find_roster-left-requires-clause-repairable g c =
+    rw (c.new-meter.ensures.same, ap (λ (x : Course). x.from) c.within_capacity-course.ensures) (repairable g (goal.at.find_roster-left-requires-clause-repairable g c).After-new-meter)
 
 -- ---- the roster that was found
 
@@ -51,10 +51,10 @@ planned : (g : given.Over) (c : After-find_roster-left g) → IsPlanned c.args.i
 planned g c =
     let given = c.args.instance.roster in
     let nearest = c.find_roster-left.new.roster in
-    subst (λ (x : Course). IsPlanned c.args.instance.case x.from given nearest) c.within_room-course.ensures (subst (λ (m : Meaning). IsPlanned m c.within_room-course.result.from given nearest) c.new-meter.ensures.same c.find_roster-left.ensures.planned)
+    subst (λ (x : Course). IsPlanned c.args.instance.case x.from given nearest) c.within_capacity-course.ensures (subst (λ (m : Meaning). IsPlanned m c.within_capacity-course.result.from given nearest) c.new-meter.ensures.same c.find_roster-left.ensures.planned)
 
 few : (g : given.Over) (c : After-find_roster-left g) → c.find_roster-left.result ≤ c.args.course.now.searches
-few g c = omega (arith, c.find_roster-left.ensures.spends.fewer, ap (λ (x : Course). x.searches) c.within_room-course.ensures)
+few g c = omega (arith, c.find_roster-left.ensures.spends.fewer, ap (λ (x : Course). x.searches) c.within_capacity-course.ensures)
 
 pub returns-in_err-held : goal.returns-in_err-held
 returns-in_err-held g c =
@@ -63,9 +63,9 @@ returns-in_err-held g c =
     let at = goal.at.returns-in_err-held g c in
     let nearest = c.find_roster-left.new.roster in
     let p = err_from_is_err_and c.from_residual.result c.from_residual.ensures.1 in
-    let unfound = subst (λ (m : Meaning). IsUnfound c.args.source.now c.args.instance.bundle (hard_faults m nearest) c.in_err-held.field-0.0) c.new-meter.ensures.same c.in_err-held.ensures.unfound in
-    rw (p.1, p.2) (plan_unfound c.args.course.now.searches c.args.course.now.from c.args.course.now.kicks_alone c.args.instance.case c.args.instance.roster output log c.args.source.now c.args.instance.bundle
-    (mendable g at.After-new-meter) nearest (λ e. fits g at.After-find_roster-left) (planned g at.After-find_roster-left) c.in_err-held.field-0.0 unfound refl refl)
+    let unfound = subst (λ (m : Meaning). IsUnfound m (hard_faults m nearest) c.in_err-held.field-0.0) c.new-meter.ensures.same c.in_err-held.ensures.unfound in
+    rw (p.1, p.2) (plan_unfound c.args.course.now.searches c.args.course.now.from c.args.course.now.kicks_alone c.args.instance.case c.args.instance.roster output log
+    (repairable g at.After-new-meter) nearest (λ e. fits g at.After-find_roster-left) (planned g at.After-find_roster-left) c.in_err-held.field-0.0 unfound refl refl)
 
 -- ---- the run from there
 
@@ -77,16 +77,17 @@ held_is g c =
 kept : (g : given.Over) (c : After-polish_found g) → hard_faults c.args.instance.case c.find_roster-left.new.roster ≡ []
 kept g c = subst (λ (m : Meaning). hard_faults m c.find_roster-left.new.roster ≡ []) c.new-meter.ensures.same c.in_ok-held.ensures.kept
 
--- what is told of the held roster, the course and the number that the log begins with is so of what was given and found
+-- what holds for the held roster, the course and the number at the beginning of the log holds for what was
+-- given and found
 as_given : (g : given.Over) (c : After-polish_found g) (P : (m : Meaning) (from : ℕ) (r : Rows) (start : ℕ) (alone : Bool) → Type 0)
-    → P c.in_ok-held.held.case c.within_room-course.result.from c.in_ok-held.held.roster c.missing-start.result c.within_room-course.result.kicks_alone
+    → P c.in_ok-held.held.case c.within_capacity-course.result.from c.in_ok-held.held.roster c.missing-start.result c.within_capacity-course.result.kicks_alone
     → P c.args.instance.case c.args.course.now.from c.find_roster-left.new.roster (missing c.args.instance.case c.args.instance.roster) c.args.course.now.kicks_alone
-as_given g c P told =
+as_given g c P polished =
     let k = c.args.instance.case in
     let nearest = c.find_roster-left.new.roster in
     let start = c.missing-start.ensures ∙ ap (λ (m : Meaning). missing m c.args.instance.roster) c.new-meter.ensures.same in
-    let of_held = subst (λ (h : HeldRoster). P h.case c.within_room-course.result.from h.roster c.missing-start.result c.within_room-course.result.kicks_alone) (held_is g c) told in
-    let of_course = subst (λ (x : Course). P k x.from nearest c.missing-start.result x.kicks_alone) c.within_room-course.ensures of_held in
+    let of_held = subst (λ (h : HeldRoster). P h.case c.within_capacity-course.result.from h.roster c.missing-start.result c.within_capacity-course.result.kicks_alone) (held_is g c) polished in
+    let of_course = subst (λ (x : Course). P k x.from nearest c.missing-start.result x.kicks_alone) c.within_capacity-course.ensures of_held in
     subst (λ n. P k c.args.course.now.from nearest n c.args.course.now.kicks_alone) start of_course
 
 pub returns-in-Ok-polish_found : goal.returns-in-Ok-polish_found
@@ -95,14 +96,14 @@ returns-in-Ok-polish_found g c =
     let log : Output g.row.Log.Denot = record { contents = g.Log.Write.contents; before = c.args.log.now; after = c.polish_found.new.log } in
     let at = goal.at.returns-in-Ok-polish_found g c in
     let last = c.polish_found.new.held.roster in
-    let told = c.in-Ok-polish_found.field-0 in
-    let polishes = as_given g at.After-polish_found (λ m from r start alone. Polishes g.Log.Write.contents m from r start c.find_roster-left.result alone last c.args.log.now c.polish_found.new.log told) c.in-Ok-polish_found.ensures.ok in
+    let polished = c.in-Ok-polish_found.field-0 in
+    let polishes = as_given g at.After-polish_found (λ m from r start alone. Polishes g.Log.Write.contents m from r start c.find_roster-left.result alone last c.args.log.now c.polish_found.new.log polished) c.in-Ok-polish_found.ensures.ok in
     let case_is = c.case.ensures ∙ c.polish_found.ensures.case ∙ ap (λ (h : HeldRoster). h.case) (held_is g at.After-polish_found) in
     let shown = c.show_weeks.result in
     let writes = subst (λ (m : Meaning). OnOk shown (Writes g.Out.Write.contents c.args.output.now c.show_weeks.new.output (weeks_text m last))) case_is (subst (λ r. OnOk shown (Writes g.Out.Write.contents c.args.output.now c.show_weeks.new.output (weeks_text c.case.result.now r))) c.roster.ensures.roster c.show_weeks.ensures.ok) in
     let stops = subst (λ (m : Meaning). IfErr shown (StopsOutput g.Out.Write.contents c.args.output.now c.show_weeks.new.output (weeks_text m last))) case_is (subst (λ r. IfErr shown (StopsOutput g.Out.Write.contents c.args.output.now c.show_weeks.new.output (weeks_text c.case.result.now r))) c.roster.ensures.roster c.show_weeks.ensures.err) in
-    plan_ends c.args.course.now.searches c.args.course.now.from c.args.course.now.kicks_alone c.args.instance.case c.args.instance.roster output log c.args.source.now c.args.instance.bundle
-    (mendable g at.After-new-meter) c.find_roster-left.new.roster (λ e. fits g at.After-find_roster-left) (planned g at.After-find_roster-left) (kept g at.After-polish_found) c.find_roster-left.result (few g at.After-find_roster-left) last told shown polishes writes stops
+    plan_ends c.args.course.now.searches c.args.course.now.from c.args.course.now.kicks_alone c.args.instance.case c.args.instance.roster output log
+    (repairable g at.After-new-meter) c.find_roster-left.new.roster (λ e. fits g at.After-find_roster-left) (planned g at.After-find_roster-left) (kept g at.After-polish_found) c.find_roster-left.result (few g at.After-find_roster-left) last polished shown polishes writes stops
 
 pub returns : goal.returns
 returns g c =
@@ -112,5 +113,5 @@ returns g c =
     let last = c.polish_found.new.held.roster in
     let f = c.in-Err-LogFailed.field-0 in
     let stops = as_given g at.After-polish_found (λ m from r start alone. PolishLogStops g.Log.Write.contents m from r start c.find_roster-left.result alone last c.args.log.now c.polish_found.new.log f) c.in-Err-LogFailed.ensures.err in
-    plan_stops c.args.course.now.searches c.args.course.now.from c.args.course.now.kicks_alone c.args.instance.case c.args.instance.roster output log c.args.source.now c.args.instance.bundle
-    (mendable g at.After-new-meter) c.find_roster-left.new.roster (λ e. fits g at.After-find_roster-left) (planned g at.After-find_roster-left) (kept g at.After-polish_found) c.find_roster-left.result (few g at.After-find_roster-left) last f stops refl
+    plan_stops c.args.course.now.searches c.args.course.now.from c.args.course.now.kicks_alone c.args.instance.case c.args.instance.roster output log
+    (repairable g at.After-new-meter) c.find_roster-left.new.roster (λ e. fits g at.After-find_roster-left) (planned g at.After-find_roster-left) (kept g at.After-polish_found) c.find_roster-left.result (few g at.After-find_roster-left) last f stops refl

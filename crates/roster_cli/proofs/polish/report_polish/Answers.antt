@@ -18,13 +18,13 @@ returns-in_err-held g c =
     let output : Output g.row.Out.Denot = record { contents = g.Out.Write.contents; before = c.args.output.now; after = c.args.output.now } in
     let log : Output g.row.Log.Denot = record { contents = g.Log.Write.contents; before = c.args.log.now; after = c.args.log.now } in
     let p = err_from_is_err_and c.from_residual.result c.from_residual.ensures.1 in
-    rw (p.1, p.2) (polish_unheld c.args.course.now.searches c.args.course.now.from c.args.course.now.kicks_alone c.args.instance.case c.args.instance.roster output log c.args.source.now c.args.instance.bundle c.in_err-held.field-0.0 (subst (λ (m : Meaning). IsUnheld c.args.source.now c.args.instance.bundle (hard_faults m c.args.instance.roster) c.in_err-held.field-0.0) c.new-meter.ensures.same c.in_err-held.ensures.unheld) refl refl)
+    rw (p.1, p.2) (polish_unheld c.args.course.now.searches c.args.course.now.from c.args.course.now.kicks_alone c.args.instance.case c.args.instance.roster output log c.in_err-held.field-0.0 (subst (λ (m : Meaning). IsUnheld m (hard_faults m c.args.instance.roster) c.in_err-held.field-0.0) c.new-meter.ensures.same c.in_err-held.ensures.unheld) refl refl)
 
 pub returns-in_default : goal.returns-in_default
 returns-in_default g c =
     let output : Output g.row.Out.Denot = record { contents = g.Out.Write.contents; before = c.args.output.now; after = c.args.output.now } in
     let log : Output g.row.Log.Denot = record { contents = g.Log.Write.contents; before = c.args.log.now; after = c.args.log.now } in
-    polish_roomless c.args.course.now.searches c.args.course.now.from c.args.course.now.kicks_alone c.args.instance.case c.args.instance.roster output log c.args.source.now c.args.instance.bundle (subst (λ (m : Meaning). hard_faults m c.args.instance.roster ≡ []) c.new-meter.ensures.same c.in_ok-held.ensures.kept) refl refl
+    polish_roomless c.args.course.now.searches c.args.course.now.from c.args.course.now.kicks_alone c.args.instance.case c.args.instance.roster output log (subst (λ (m : Meaning). hard_faults m c.args.instance.roster ≡ []) c.new-meter.ensures.same c.in_ok-held.ensures.kept) refl refl
 
 pub returns-in-Ok-polish : goal.returns-in-Ok-polish
 returns-in-Ok-polish g c =
@@ -34,14 +34,14 @@ returns-in-Ok-polish g c =
     let held = c.in_ok-held.ensures.held ∙ ap of_case c.new-meter.ensures.same in
     let kept = subst (λ (m : Meaning). hard_faults m c.args.instance.roster ≡ []) c.new-meter.ensures.same c.in_ok-held.ensures.kept in
     let last = c.polish.new.held.roster in
-    let told = c.in-Ok-polish.field-0 in
-    let made = subst (λ (k : Course). Polishes g.Log.Write.contents c.in_ok-held.held.case k.from c.in_ok-held.held.roster (penalty c.in_ok-held.held.case c.in_ok-held.held.roster) k.searches k.kicks_alone last c.args.log.now c.polish.new.log told) c.within_room-course.ensures c.in-Ok-polish.ensures.ok in
-    let polishes = subst (λ (h : HeldRoster). Polishes g.Log.Write.contents h.case c.args.course.now.from h.roster (penalty h.case h.roster) (min c.args.course.now.searches most_searches) c.args.course.now.kicks_alone last c.args.log.now c.polish.new.log told) held made in
+    let polished = c.in-Ok-polish.field-0 in
+    let made = subst (λ (k : Course). Polishes g.Log.Write.contents c.in_ok-held.held.case k.from c.in_ok-held.held.roster (penalty c.in_ok-held.held.case c.in_ok-held.held.roster) k.searches k.kicks_alone last c.args.log.now c.polish.new.log polished) c.within_capacity-course.ensures c.in-Ok-polish.ensures.ok in
+    let polishes = subst (λ (h : HeldRoster). Polishes g.Log.Write.contents h.case c.args.course.now.from h.roster (penalty h.case h.roster) (min c.args.course.now.searches most_searches) c.args.course.now.kicks_alone last c.args.log.now c.polish.new.log polished) held made in
     let case_is = c.case-in-Ok-polish.ensures ∙ c.polish.ensures.case ∙ ap (λ (h : HeldRoster). h.case) held in
     let shown = c.show_weeks.result in
     let writes = subst (λ (m : Meaning). OnOk shown (Writes g.Out.Write.contents c.args.output.now c.show_weeks.new.output (weeks_text m last))) case_is (subst (λ r. OnOk shown (Writes g.Out.Write.contents c.args.output.now c.show_weeks.new.output (weeks_text c.case-in-Ok-polish.result.now r))) c.roster.ensures.roster c.show_weeks.ensures.ok) in
     let stops = subst (λ (m : Meaning). IfErr shown (StopsOutput g.Out.Write.contents c.args.output.now c.show_weeks.new.output (weeks_text m last))) case_is (subst (λ r. IfErr shown (StopsOutput g.Out.Write.contents c.args.output.now c.show_weeks.new.output (weeks_text c.case-in-Ok-polish.result.now r))) c.roster.ensures.roster c.show_weeks.ensures.err) in
-    polish_ends c.args.course.now.searches c.args.course.now.from c.args.course.now.kicks_alone c.args.instance.case c.args.instance.roster output log c.args.source.now c.args.instance.bundle (min c.args.course.now.searches most_searches) (omega arith) last told shown kept polishes writes stops
+    polish_ends c.args.course.now.searches c.args.course.now.from c.args.course.now.kicks_alone c.args.instance.case c.args.instance.roster output log (min c.args.course.now.searches most_searches) (omega arith) last polished shown kept polishes writes stops
 
 pub returns : goal.returns
 returns g c =
@@ -51,6 +51,6 @@ returns g c =
     let held = c.in_ok-held.ensures.held ∙ ap of_case c.new-meter.ensures.same in
     let kept = subst (λ (m : Meaning). hard_faults m c.args.instance.roster ≡ []) c.new-meter.ensures.same c.in_ok-held.ensures.kept in
     let f = c.in-Err-LogFailed.field-0 in
-    let stops_then = subst (λ (k : Course). PolishLogStops g.Log.Write.contents c.in_ok-held.held.case k.from c.in_ok-held.held.roster (penalty c.in_ok-held.held.case c.in_ok-held.held.roster) k.searches k.kicks_alone c.polish.new.held.roster c.args.log.now c.polish.new.log f) c.within_room-course.ensures c.in-Err-LogFailed.ensures.err in
+    let stops_then = subst (λ (k : Course). PolishLogStops g.Log.Write.contents c.in_ok-held.held.case k.from c.in_ok-held.held.roster (penalty c.in_ok-held.held.case c.in_ok-held.held.roster) k.searches k.kicks_alone c.polish.new.held.roster c.args.log.now c.polish.new.log f) c.within_capacity-course.ensures c.in-Err-LogFailed.ensures.err in
     let stops = subst (λ (h : HeldRoster). PolishLogStops g.Log.Write.contents h.case c.args.course.now.from h.roster (penalty h.case h.roster) (min c.args.course.now.searches most_searches) c.args.course.now.kicks_alone c.polish.new.held.roster c.args.log.now c.polish.new.log f) held stops_then in
-    polish_stops c.args.course.now.searches c.args.course.now.from c.args.course.now.kicks_alone c.args.instance.case c.args.instance.roster output log c.args.source.now c.args.instance.bundle (min c.args.course.now.searches most_searches) (omega arith) c.polish.new.held.roster f kept stops refl
+    polish_stops c.args.course.now.searches c.args.course.now.from c.args.course.now.kicks_alone c.args.instance.case c.args.instance.roster output log (min c.args.course.now.searches most_searches) (omega arith) c.polish.new.held.roster f kept stops refl

@@ -9,13 +9,13 @@ use Rattle.roster_costs.proofs.hard.understaffed_on.Goals as goal
 
 pub returns-in-Some : goal.returns-in-Some
 returns-in-Some c =
-    let table = fault_by_table c.args.case.now c.args.roster.now c.args.day c.covers-covers.result c.covers-covers.ensures c.loop-shift.shift c.loop-skill.skill c.place.result (omega arith) (omega arith) c.place.ensures.place in
+    let table = fault_by_table c.args.case.now c.args.roster.now c.args.day c.covers-covers.result c.covers-covers.ensures c.loop-shift.shift c.loop-skill.skill c.slot.result (omega arith) (omega arith) c.slot.ensures.slot in
     below_first _ _ c.loop-shift.shift c.in-Some.fault (omega arith) c.loop-shift.invariant
     (below_first _ _ c.loop-skill.skill c.in-Some.fault (omega arith) c.loop-skill.invariant (c.in-Some.ensures ∙ ap (first_fault {F = HardFault}) table))
 
 pub loop-skill-preserved : goal.loop-skill-preserved
 loop-skill-preserved c =
-    let table = fault_by_table c.args.case.now c.args.roster.now c.args.day c.covers-covers.result c.covers-covers.ensures c.loop-shift.shift c.loop-skill.skill c.place.result (omega arith) (omega arith) c.place.ensures.place in
+    let table = fault_by_table c.args.case.now c.args.roster.now c.args.day c.covers-covers.result c.covers-covers.ensures c.loop-shift.shift c.loop-skill.skill c.slot.result (omega arith) (omega arith) c.slot.ensures.slot in
     below_more _ c.loop-skill.skill c.loop-skill.invariant (ap (first_fault {F = HardFault}) (sym table) ∙ sym c.understaffed.ensures ∙ c.in_default.is)
 
 pub loop-shift-preserved : goal.loop-shift-preserved

@@ -32,9 +32,9 @@ loop-nurse-preserved c =
           let works = works-of_case c.args.case.now r n c.requires.fitting within day w.in-Work.shift w.in-Work.skill (row_is ∙ w.in-Work.is) in
           record {
             counted = subst (AreCovers (take (n + 1) r) day) (sym w.counts-is)
-                (counted_work r day n inside c.row.result.now c.choice_on.result c.row.ensures c.choice_on.ensures counts counted w.in-Work.shift w.in-Work.skill w.in-Work.is (omega (arith, works.0, c.requires.shifts)) (omega (arith, works.1, c.requires.skills)) w.place.result w.place.ensures.place sized);
-            sized = ap length w.counts-is ∙ length-set counts w.place.result (slice_index_or counts w.place.result 0 + 1) ∙ sized;
-            few = subst (λ (own : List ℕ). (i : ℕ) → i < 64 → slice_index_or own i 0 ≤ n + 1) (sym w.counts-is) (few_more counts n w.place.result (omega (arith, sized, w.place.ensures.within)) few sized);
+                (counted_work r day n inside c.row.result.now c.choice_on.result c.row.ensures c.choice_on.ensures counts counted w.in-Work.shift w.in-Work.skill w.in-Work.is (omega (arith, works.0, c.requires.shifts)) (omega (arith, works.1, c.requires.skills)) w.slot.result w.slot.ensures.slot sized);
+            sized = ap length w.counts-is ∙ length-set counts w.slot.result (slice_index_or counts w.slot.result 0 + 1) ∙ sized;
+            few = subst (λ (own : List ℕ). (i : ℕ) → i < 64 → slice_index_or own i 0 ≤ n + 1) (sym w.counts-is) (few_more counts n w.slot.result (omega (arith, sized, w.slot.ensures.within)) few sized);
           }
       | in_default w ↦ record {
         counted = subst (AreCovers (take (n + 1) r) day) (sym w.counts-is)

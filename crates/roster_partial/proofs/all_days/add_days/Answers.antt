@@ -10,24 +10,24 @@ use Rattle.roster_partial.proofs.all_days.add_days.Goals as goal
 use Rattle.roster_partial.proofs.all_days.add_days.Goals.{After-len-offers}
 
 -- the offers of the day, as they are counted
-offers : (c : After-len-offers) → c.len-offers.result ≡ length (offered c.args.limited.now.floors.search c.loop-day.day)
+offers : (c : After-len-offers) → c.len-offers.result ≡ length (offered c.args.limited.now.completion_bounds.search c.loop-day.day)
 offers c =
-    let search = c.args.limited.now.floors.search in
-    c.len-offers.ensures.value ∙ ap length (offers_read search.case.now search.nurse search.offers.now c.args.limited.now.floors.search.for_nurse c.loop-day.day (omega (arith, c.loop-day-test.true, c.days-day-end.ensures.count)) _ c.index-search-day.result refl)
+    let search = c.args.limited.now.completion_bounds.search in
+    c.len-offers.ensures.value ∙ ap length (offers_read search.case.now search.nurse search.offers.now c.args.limited.now.completion_bounds.search.for_nurse c.loop-day.day (omega (arith, c.loop-day-test.true, c.days-day-end.ensures.count)) _ c.index-search-day.result refl)
 
--- the steps of the day, as they are reckoned
-steps : (c : After-len-offers) → (c.row_count-end.result - c.loop-day.first) * c.len-offers.result ≡ (c.row_count-end.result - c.loop-day.first) * length (offered c.args.limited.now.floors.search c.loop-day.day)
-steps c = ap (λ n. (c.row_count-end.result - c.loop-day.first) * n) (offers c)
+-- the extensions of the day, as they are computed
+extensions : (c : After-len-offers) → (c.row_count-end.result - c.loop-day.first) * c.len-offers.result ≡ (c.row_count-end.result - c.loop-day.first) * length (offered c.args.limited.now.completion_bounds.search c.loop-day.day)
+extensions c = ap (λ n. (c.row_count-end.result - c.loop-day.first) * n) (offers c)
 
 -- they are no more than those of as many rows by as many offers as a day may have
-brief_steps : (c : After-len-offers) → (c.row_count-end.result - c.loop-day.first) * length (offered c.args.limited.now.floors.search c.loop-day.day) ≤ (c.row_count-end.result - c.loop-day.first) * most_offers
-brief_steps c = omega (arith, steps c, mul-le (c.row_count-end.result - c.loop-day.first) c.len-offers.result (c.row_count-end.result - c.loop-day.first) 9 (omega arith) c.len-offers.ensures.fits)
+brief_extensions : (c : After-len-offers) → (c.row_count-end.result - c.loop-day.first) * length (offered c.args.limited.now.completion_bounds.search c.loop-day.day) ≤ (c.row_count-end.result - c.loop-day.first) * most_offers
+brief_extensions c = omega (arith, extensions c, mul-le (c.row_count-end.result - c.loop-day.first) c.len-offers.result (c.row_count-end.result - c.loop-day.first) 9 (omega arith) c.len-offers.ensures.fits)
 
-pub overflow_sub-steps : goal.overflow_sub-steps
-overflow_sub-steps c = omega (arith, c.loop-day.invariant.rows.inside, rows_counted c.loop-day.rows c.row_count-end.result c.row_count-end.ensures)
+pub overflow_sub-extensions : goal.overflow_sub-extensions
+overflow_sub-extensions c = omega (arith, c.loop-day.invariant.rows.inside, rows_counted c.loop-day.rows c.row_count-end.result c.row_count-end.ensures)
 
-pub overflow_mul-steps : goal.overflow_mul-steps
-overflow_mul-steps c =
+pub overflow_mul-extensions : goal.overflow_mul-extensions
+overflow_mul-extensions c =
     let all : c.row_count-end.result ≤ most_rows = omega (arith, c.row_count-end.ensures, c.loop-day.invariant.rows.held.within, c.args.limited.now.few) in
     omega (arith, mul-le (c.row_count-end.result - c.loop-day.first) c.len-offers.result most_rows 9 (omega (arith, all)) c.len-offers.ensures.fits)
 
@@ -35,7 +35,7 @@ pub add_day-requires-clause-end : goal.add_day-requires-clause-end
 add_day-requires-clause-end c = rows_counted c.loop-day.rows c.row_count-end.result c.row_count-end.ensures
 
 pub add_day-requires-clause-room : goal.add_day-requires-clause-room
-add_day-requires-clause-room c = omega (arith, steps (goal.at.add_day-requires-clause-room c).After-len-offers, c.if-steps-last_count.false, c.count.ensures, c.loop-day.invariant.counted.1, c.ranges.last_count.fits)
+add_day-requires-clause-room c = omega (arith, extensions (goal.at.add_day-requires-clause-room c).After-len-offers, c.if-extensions-last_count.false, c.count.ensures, c.loop-day.invariant.counted.1, c.ranges.last_count.fits)
 
 pub loop-day-preserved : goal.loop-day-preserved
 loop-day-preserved c =
@@ -52,40 +52,41 @@ loop-day-preserved c =
       best = subst (λ (d : ℕ). best_of_day limited d end now ≡ best_of_day limited day c.loop-day.first c.loop-day.rows) next (c.add_day.ensures.best c.if-not-add_day.false) ∙ i.best;
       each_day = λ more. elim (cases_lt c.loop-day.first end) [
         | inl some ↦ omega (arith, more, c.add_day.ensures.each, i.each_day (omega (arith, some, long)))
-        | inr none ↦ let empty : end - c.loop-day.first ≡ 0 = omega (arith, none) in omega (arith, more, c.add_day.ensures.each, c.add_day.ensures.counted, ap (λ n. n * length (offered limited.floors.search day)) empty)
+        | inr none ↦ let empty : end - c.loop-day.first ≡ 0 = omega (arith, none) in omega (arith, more, c.add_day.ensures.each, c.add_day.ensures.counted, ap (λ n. n * length (offered limited.completion_bounds.search day)) empty)
       ];
-      brief = omega (arith, brief_steps of, c.add_day.ensures.counted, i.brief, i.rows.inside, long);
-      counted = (omega (arith, c.add_day.ensures.each, c.add_day.ensures.rows.inside, i.counted.0), omega (arith, steps of, c.add_day.ensures.counted, c.if-steps-last_count.false, c.count.ensures, i.counted.1));
+      brief = omega (arith, brief_extensions of, c.add_day.ensures.counted, i.brief, i.rows.inside, long);
+      counted = (omega (arith, c.add_day.ensures.each, c.add_day.ensures.rows.inside, i.counted.0), omega (arith, extensions of, c.add_day.ensures.counted, c.if-extensions-last_count.false, c.count.ensures, i.counted.1));
     }
 
 pub returns-clause-rows : goal.returns-clause-rows
 returns-clause-rows c =
-    let last : c.loop-day.day ≡ days_in c.args.limited.now.floors.search = omega (arith, c.loop-day-test.false, c.loop-day.auto.day-end, c.days-day-end.ensures.count) in
+    let last : c.loop-day.day ≡ days_in c.args.limited.now.completion_bounds.search = omega (arith, c.loop-day-test.false, c.loop-day.auto.day-end, c.days-day-end.ensures.count) in
     subst (λ (d : ℕ). AreOfDay c.args.limited.now d c.loop-day.first c.loop-day.rows) last c.loop-day.invariant.rows
 
 pub returns-clause-best : goal.returns-clause-best
 returns-clause-best c =
-    let last : c.loop-day.day ≡ days_in c.args.limited.now.floors.search = omega (arith, c.loop-day-test.false, c.loop-day.auto.day-end, c.days-day-end.ensures.count) in
+    let last : c.loop-day.day ≡ days_in c.args.limited.now.completion_bounds.search = omega (arith, c.loop-day-test.false, c.loop-day.auto.day-end, c.days-day-end.ensures.count) in
     subst (λ (d : ℕ). best_of_day c.args.limited.now d c.loop-day.first c.loop-day.rows ≡ best_of_day c.args.limited.now 0 0 c.args.rows.now) last c.loop-day.invariant.best
 
--- where the steps of the day aren't left, fewer are than those of all rows by as many offers as a day may have
-pub returns-then-steps-last_count-clause-full : goal.returns-then-steps-last_count-clause-full
-returns-then-steps-last_count-clause-full c = λ _.
+-- if fewer extensions are left than the day takes, they are fewer than those of all rows by as many offers as
+-- a day may have
+pub returns-then-extensions-last_count-clause-full : goal.returns-then-extensions-last_count-clause-full
+returns-then-extensions-last_count-clause-full c = λ _.
     let all = mul-le (c.row_count-end.result - c.loop-day.first) c.len-offers.result c.row_count-end.result 9 (omega arith) c.len-offers.ensures.fits in
-    inr (omega (arith, all, c.row_count-end.ensures, c.if-steps-last_count.true, c.count.ensures))
+    inr (omega (arith, all, c.row_count-end.ensures, c.if-extensions-last_count.true, c.count.ensures))
 
 pub returns-then-not-add_day-clause-counted : goal.returns-then-not-add_day-clause-counted
 returns-then-not-add_day-clause-counted c =
-    (omega (arith, c.add_day.ensures.each, c.add_day.ensures.rows.inside, c.loop-day.invariant.counted.0), omega (arith, steps (goal.at.returns-then-not-add_day-clause-counted c).After-len-offers, c.add_day.ensures.counted, c.if-steps-last_count.false, c.count.ensures, c.loop-day.invariant.counted.1))
+    (omega (arith, c.add_day.ensures.each, c.add_day.ensures.rows.inside, c.loop-day.invariant.counted.0), omega (arith, extensions (goal.at.returns-then-not-add_day-clause-counted c).After-len-offers, c.add_day.ensures.counted, c.if-extensions-last_count.false, c.count.ensures, c.loop-day.invariant.counted.1))
 
 pub returns-then-not-add_day-clause-brief : goal.returns-then-not-add_day-clause-brief
 returns-then-not-add_day-clause-brief c =
     let i = c.loop-day.invariant in
     let long = rows_counted c.loop-day.rows c.row_count-end.result c.row_count-end.ensures in
-    omega (arith, brief_steps (goal.at.returns-then-not-add_day-clause-brief c).After-len-offers, c.add_day.ensures.counted, i.brief, i.rows.inside, long, c.row_count-end.ensures, i.rows.held.within)
+    omega (arith, brief_extensions (goal.at.returns-then-not-add_day-clause-brief c).After-len-offers, c.add_day.ensures.counted, i.brief, i.rows.inside, long, c.row_count-end.ensures, i.rows.held.within)
 
-pub returns-then-steps-last_count-clause-brief : goal.returns-then-steps-last_count-clause-brief
-returns-then-steps-last_count-clause-brief c =
+pub returns-then-extensions-last_count-clause-brief : goal.returns-then-extensions-last_count-clause-brief
+returns-then-extensions-last_count-clause-brief c =
     let i = c.loop-day.invariant in
     omega (arith, i.brief, i.rows.inside, rows_counted c.loop-day.rows c.row_count-end.result c.row_count-end.ensures, c.row_count-end.ensures, i.rows.held.within)
 

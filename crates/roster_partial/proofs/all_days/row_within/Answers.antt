@@ -14,7 +14,7 @@ use Rattle.roster_partial.proofs.RowLaws.{is_within}
 use Rattle.roster_partial.proofs.all_days.row_within.Goals as goal
 use Rattle.roster_partial.proofs.all_days.row_within.Goals.{In-Some}
 
--- the list with the partial row without a day
+-- the list with the partial row of no days
 first_row : (none one : List ℕ) (e : Entry) → rows_in none ≡ [] → rows_in one ≡ rows_in none ++ e ∷ [] → rows_in one ≡ e ∷ []
 first_row none one e empty put = put ∙ ap (λ xs. xs ++ e ∷ []) empty
 
@@ -31,11 +31,11 @@ pub read_row-requires-clause-linked : goal.read_row-requires-clause-linked
 read_row-requires-clause-linked c =
     let limited = c.args.limited.now in
     let rows = c.add_days.new.rows in
-    let place = c.in-Some-least_at_end.ensures.place in
-    (entry_of_day limited (days_in limited.floors.search) c.in-Some.first (rows_in rows) c.in-Some.ensures.rows.inside c.in-Some-least_at_end.place place.0 (omega (arith, place.1, rows_counted rows (count_in rows) refl)) c.in-Some.ensures.rows.entries).linked
+    let index = c.in-Some-least_at_end.ensures.index in
+    (entry_of_day limited (days_in limited.completion_bounds.search) c.in-Some.first (rows_in rows) c.in-Some.ensures.rows.inside c.in-Some-least_at_end.index index.0 (omega (arith, index.1, rows_counted rows (count_in rows) refl)) c.in-Some.ensures.rows.entries).linked
 
 pub read_row-requires-clause-inside : goal.read_row-requires-clause-inside
-read_row-requires-clause-inside c = c.in-Some-least_at_end.ensures.place.1
+read_row-requires-clause-inside c = c.in-Some-least_at_end.ensures.index.1
 
 pub returns-in_default : goal.returns-in_default
 returns-in_default c = record {
@@ -50,7 +50,7 @@ returns-in_default c = record {
 }
 
 -- the best of the rows at the end is the best of all within the limit
-all_rows : (c : In-Some) → best_of_day c.args.limited.now (days_in c.args.limited.now.floors.search) c.in-Some.first c.add_days.new.rows ≡ within c.args.limited.now.limit (best_in c.args.limited.now.floors.search)
+all_rows : (c : In-Some) → best_of_day c.args.limited.now (days_in c.args.limited.now.completion_bounds.search) c.in-Some.first c.add_days.new.rows ≡ within c.args.limited.now.limit (best_in c.args.limited.now.completion_bounds.search)
 all_rows c =
     let days = days_on c.args.limited.now 0 [] in
     c.in-Some.ensures.best ∙ ap (cheapest (best_of days)) (first_row c.clear_rows.new.cells c.push_row.new.cells c.start_entry.result c.clear_rows.ensures.rows c.push_row.ensures.rows) ∙ cheaper_none (best_of days c.start_entry.result) ∙ c.start_entry.ensures.best
@@ -74,12 +74,12 @@ same_cost e = cc
 pub returns : goal.returns
 returns c =
     let limited = c.args.limited.now in
-    let search = limited.floors.search in
+    let search = limited.completion_bounds.search in
     let rows = c.add_days.new.rows in
     let low = c.in-Some-least_at_end.cost in
-    let place = c.in-Some-least_at_end.place in
-    let offers = offers_of_last search rows place in
-    let there = c.in-Some-least_at_end.ensures.place in
+    let index = c.in-Some-least_at_end.index in
+    let offers = offers_of_last search rows index in
+    let there = c.in-Some-least_at_end.ensures.index in
     let found = is_within limited.limit (best_in search) (low, offers) (sym (all_rows (goal.at.returns c).In-Some) ∙ c.in-Some-least_at_end.ensures.best) in
     record {
       best = λ cost is. subst (λ x. IsFound (best_in search) x (take (days_in search) c.read_row.new.row)) (same_cost is) (record { offers = offers; is = found.0; row_is = c.read_row.ensures.row });

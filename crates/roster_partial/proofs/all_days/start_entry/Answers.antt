@@ -9,5 +9,5 @@ returns-clause-best c = best_at_start c.args.limited.now _ c.start-state.ensures
 
 pub returns-clause-last : goal.returns-clause-last
 returns-clause-last c =
-    let search = c.args.limited.now.floors.search in
+    let search = c.args.limited.now.completion_bounds.search in
     omega (arith, (fits-all (sizes_of search.case.now search.nurse) _ c.start-state.ensures.fits).last, c.keeps_limits.ensures.shifts)

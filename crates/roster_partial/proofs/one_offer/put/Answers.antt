@@ -27,21 +27,21 @@ module _ (limited : LimitedSearch) (at : RowsDay) (old : List ℕ) (put : ArePut
     best_now : best_put limited at now ≡ cheapest (best_of days) (day_in now at.end)
     best_now = ap (λ xs. cheapest (best_of (days_on limited (suc at.day) xs)) (day_in now at.end)) front
 
-pub returns-then-leave_out : goal.returns-then-leave_out
-returns-then-leave_out c =
+pub returns-then-drop_dominated : goal.returns-then-drop_dominated
+returns-then-drop_dominated c =
     let limited = c.args.limited.now in
     let at = c.args.at in
     let old = c.args.rows.now in
-    let now = c.leave_out.new.cells in
+    let now = c.drop_dominated.new.cells in
     let put = c.requires.rows in
-    let out = c.leave_out.ensures in
+    let dropped = c.drop_dominated.ensures in
     let days = days_after limited at old in
-    let long : length (rows_in now) ≡ length (rows_in old) = length-rows_in now ∙ out.count ∙ sym (length-rows_in old) in
+    let long : length (rows_in now) ≡ length (rows_in old) = length-rows_in now ∙ dropped.count ∙ sym (length-rows_in old) in
     record {
-      rows = still_put limited at old put now out.front (omega (arith, long, put.inside)) (out.entries days (made_for limited at old put)) (record { long = omega (arith, put.held.long); within = omega (arith, put.held.within, out.count) });
-      front = out.front;
+      rows = still_put limited at old put now dropped.front (omega (arith, long, put.inside)) (dropped.entries days (made_for limited at old put)) (record { long = omega (arith, put.held.long); within = omega (arith, put.held.within, dropped.count) });
+      front = dropped.front;
       few = omega (arith, long);
-      best = λ _. best_now limited at old put now out.front ∙ out.left_out c.if-leave_out.true days (made_for limited at old put) ∙ cheapest_more (best_of days) (day_in old at.end) c.args.more.now;
+      best = λ _. best_now limited at old put now dropped.front ∙ dropped.dominated c.if-drop_dominated.true days (made_for limited at old put) ∙ cheapest_more (best_of days) (day_in old at.end) c.args.more.now;
       full = λ e. absurd (false≢true (sym e));
     }
 
@@ -50,16 +50,16 @@ returns-then-end-limited c =
     let limited = c.args.limited.now in
     let at = c.args.at in
     let old = c.args.rows.now in
-    let now = c.leave_out.new.cells in
+    let now = c.drop_dominated.new.cells in
     let put = c.requires.rows in
-    let out = c.leave_out.ensures in
-    let long : length (rows_in now) ≡ length (rows_in old) = length-rows_in now ∙ out.count ∙ sym (length-rows_in old) in
+    let dropped = c.drop_dominated.ensures in
+    let long : length (rows_in now) ≡ length (rows_in old) = length-rows_in now ∙ dropped.count ∙ sym (length-rows_in old) in
     record {
-      rows = still_put limited at old put now out.front (omega (arith, long, put.inside)) (out.entries (days_after limited at old) (made_for limited at old put)) (record { long = omega (arith, put.held.long); within = omega (arith, put.held.within, out.count) });
-      front = out.front;
+      rows = still_put limited at old put now dropped.front (omega (arith, long, put.inside)) (dropped.entries (days_after limited at old) (made_for limited at old put)) (record { long = omega (arith, put.held.long); within = omega (arith, put.held.within, dropped.count) });
+      front = dropped.front;
       few = omega (arith, long);
       best = λ e. absurd (false≢true e);
-      full = λ _. omega (arith, put.held.within, out.count, c.if-end-limited.true, c.row_count-end.ensures);
+      full = λ _. omega (arith, put.held.within, dropped.count, c.if-end-limited.true, c.row_count-end.ensures);
     }
 
 pub returns : goal.returns
@@ -69,32 +69,32 @@ returns c =
     let e = c.args.more.now in
     let end = at.end in
     let old = c.args.rows.now in
-    let mid = c.leave_out.new.cells in
+    let mid = c.drop_dominated.new.cells in
     let now = c.push_row.new.cells in
     let put = c.requires.rows in
-    let out = c.leave_out.ensures in
+    let dropped = c.drop_dominated.ensures in
     let days = days_after limited at old in
     let made = made_for limited at old put in
-    let long : length (rows_in mid) ≡ length (rows_in old) = length-rows_in mid ∙ out.count ∙ sym (length-rows_in old) in
+    let long : length (rows_in mid) ≡ length (rows_in old) = length-rows_in mid ∙ dropped.count ∙ sym (length-rows_in old) in
     let inside : end ≤ length (rows_in mid) = omega (arith, long, put.inside) in
     let more : length (rows_in now) ≡ length (rows_in mid) + 1 = length-rows_in now ∙ c.push_row.ensures.count ∙ ap (λ n. n + 1) (sym (length-rows_in mid)) in
     let is : rows_in now ≡ rows_in mid ++ e ∷ [] = c.push_row.ensures.rows in
     let pushed : day_in now end ≡ day_in mid end ++ e ∷ [] = ap (drop end) is ∙ drop-append-le end (rows_in mid) (e ∷ []) inside in
-    let front : earlier_in now end ≡ earlier_in old end = ap (take end) is ∙ take-append-le end (rows_in mid) (e ∷ []) inside ∙ out.front in
-    let entries = subst (All (IsEntryOf days)) (sym pushed) (All-push (IsEntryOf days) (day_in mid end) e (out.entries days made) c.requires.entry) in
+    let front : earlier_in now end ≡ earlier_in old end = ap (take end) is ∙ take-append-le end (rows_in mid) (e ∷ []) inside ∙ dropped.front in
+    let entries = subst (All (IsEntryOf days)) (sym pushed) (All-push (IsEntryOf days) (day_in mid end) e (dropped.entries days made) c.requires.entry) in
     record {
       rows = still_put limited at old put now front (omega (arith, inside, more)) entries (record { long = omega (arith, put.held.long); within = omega (arith, c.push_row.ensures.count, c.if-end-limited.false, c.row_count-end.ensures) });
       front = front;
       few = omega (arith, long, more);
-      best = λ _. best_now limited at old put now front ∙ ap (cheapest (best_of days)) pushed ∙ out.stays c.if-leave_out.false days made ∙ cheapest_more (best_of days) (day_in old end) e;
+      best = λ _. best_now limited at old put now front ∙ ap (cheapest (best_of days)) pushed ∙ dropped.stays c.if-drop_dominated.false days made ∙ cheapest_more (best_of days) (day_in old end) e;
       full = λ e. absurd (false≢true (sym e));
     }
 
-pub leave_out-requires-clause-kept : goal.leave_out-requires-clause-kept
-leave_out-requires-clause-kept c = omega (arith, c.requires.rows.held.long, c.requires.rows.held.within)
+pub drop_dominated-requires-clause-kept : goal.drop_dominated-requires-clause-kept
+drop_dominated-requires-clause-kept c = omega (arith, c.requires.rows.held.long, c.requires.rows.held.within)
 
-pub leave_out-requires-clause-first : goal.leave_out-requires-clause-first
-leave_out-requires-clause-first c = omega (arith, length-rows_in c.args.rows.now, c.requires.rows.inside)
+pub drop_dominated-requires-clause-first : goal.drop_dominated-requires-clause-first
+drop_dominated-requires-clause-first c = omega (arith, length-rows_in c.args.rows.now, c.requires.rows.inside)
 
-pub overflow_sub-seen : goal.overflow_sub-seen
-overflow_sub-seen c = omega (arith, c.row_count-end.ensures, c.leave_out.ensures.count, length-rows_in c.args.rows.now, c.requires.rows.inside)
+pub overflow_sub-recent : goal.overflow_sub-recent
+overflow_sub-recent c = omega (arith, c.row_count-end.ensures, c.drop_dominated.ensures.count, length-rows_in c.args.rows.now, c.requires.rows.inside)

@@ -20,7 +20,7 @@ trials-preserved c =
     record {
       tried = c.try_more-tried.ensures.tried;
       counted = sets_more search.case.now search.nurse offers i.counted c.try_more-tried.ensures.counted;
-      most = omega (arith, c.try_more-tried.ensures.few, c.if-bounded-count.false, c.count.ensures, c.steps_of_trial-each.ensures.steps);
+      most = omega (arith, c.try_more-tried.ensures.few, c.if-bounded-count.false, c.count.ensures, c.extensions_of_trial-each.ensures.extensions);
     }
 
 pub returns-then-is_done-clause-counted : goal.returns-then-is_done-clause-counted

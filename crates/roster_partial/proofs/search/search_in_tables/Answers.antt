@@ -1,5 +1,5 @@
 use Rattle.std.proofs.Common.{ap, arith, length}
-use Rattle.roster_search.specs.Search.{TableRoom}
+use Rattle.roster_tables.specs.Search.{TableCapacity}
 use Rattle.roster_partial.proofs.SomeStates.{some_states}
 use Rattle.roster_partial.proofs.search.search_in_tables.Goals as goal
 
@@ -10,7 +10,7 @@ search_partial-requires-clause-cells c =
       arith,
       ap length c.deref_mut-2.ensures.value,
       c.tables.invariant,
-      ap (λ (t : TableRoom). t.labels) c.tables.view_is,
+      ap (λ (t : TableCapacity). t.labels) c.tables.view_is,
       c.requires.tables.labels,
       some_states search.case.now search.nurse,
     )

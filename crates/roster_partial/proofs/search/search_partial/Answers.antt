@@ -4,11 +4,11 @@ use Rattle.roster_partial.specs.Counts.{CountsPartial}
 use Rattle.roster_partial.proofs.search.search_partial.Goals as goal
 use Rattle.roster_partial.proofs.search.search_partial.Goals.{After-search_within}
 
--- what is counted with one limit more: no floor
+-- what is counted with one limit more: no completion bound is set
 counted : (c : After-search_within) → CountsPartial c.args.bounded.now.search.case.now c.args.bounded.now.search.nurse (offers_on c.args.bounded.now.search.offers.now) c.args.meter.now c.search_within.new.meter
 counted c = record {
-  floored = c.set_best_floors.new.meter;
-  floors = c.set_best_floors.ensures.counted;
+  after_bounds = c.set_best_bounds.new.meter;
+  completion_bounds = c.set_best_bounds.ensures.counted;
   from = omega (arith, c.limits.invariant.from, c.search_within.ensures.counted.0);
   rows = omega (arith, c.limits.invariant.rows, c.search_within.ensures.brief, c.limits-test.true);
 }
@@ -16,11 +16,11 @@ counted c = record {
 pub returns-in-Found : goal.returns-in-Found
 returns-in-Found c =
     let search = c.args.bounded.now.search in
-    let floors = c.set_best_floors.ensures.counted in
+    let completion_bounds = c.set_best_bounds.ensures.counted in
     record {
       best = c.in-Found.ensures.best c.in-Found.cost refl;
       below = c.in-Found.ensures.below c.in-Found.cost refl;
-      each_day = omega (arith, c.in-Found.ensures.each_day c.in-Found.cost refl, floors.counted, c.limits.invariant.from);
+      each_day = omega (arith, c.in-Found.ensures.each_day c.in-Found.cost refl, completion_bounds.counted, c.limits.invariant.from);
       counted = counted (goal.at.returns-in-Found c).After-search_within;
       most = c.search_within.ensures.counted.1;
       length = c.search_within.ensures.length ∙ c.limits.invariant.length;
@@ -52,8 +52,8 @@ returns c =
       below = tt;
       each_day = tt;
       counted = record {
-        floored = c.set_best_floors.new.meter;
-        floors = c.set_best_floors.ensures.counted;
+        after_bounds = c.set_best_bounds.new.meter;
+        completion_bounds = c.set_best_bounds.ensures.counted;
         from = done.from;
         rows = omega (arith, done.rows, c.limits-test.false, c.limits.auto._tried-end);
       };

@@ -7,18 +7,18 @@ use Rattle.roster_laws.specs.Greatest.{extension_count}
 use Rattle.roster_polish.specs.Fades.{AreMade}
 use Rattle.roster_polish.specs.Settled.{Spends}
 use Rattle.roster_polish.proofs.Fading.{made_both, made_one}
-use Rattle.roster_polish.proofs.Steps.{room_left, has_room, spent, spent_both, spent_none}
+use Rattle.roster_polish.proofs.Steps.{rest_fits_meter, search_fits_meter, spent, spent_both, spent_none}
 use Rattle.roster_polish.proofs.fade.make_fade_pass.Goals as goal
 use Rattle.roster_polish.proofs.fade.make_fade_pass.Goals.{After-index-nurse}
 
 inside : (g : _) (c : After-index-nurse g) → c.index-nurse.result.now < nurse_count c.args.base.now.case.now
 inside g c =
     let k = c.args.base.now.case.now in
-    let l = c.loop-place in
+    let l = c.loop-position in
     let order = l.space.order.items in
-    let all : c.nurses-place-end.result ≡ nurse_count k = c.nurses-place-end.ensures.count in
-    let within : l.place < length order = omega (arith, all, c.loop-place-test.true, l.invariant.faded.fits.count) in
-    let one : get_or order l.place c.index-nurse.result.now < nurse_count k = All-get_or (λ n. n < nurse_count k) order l.place c.index-nurse.result.now within l.invariant.faded.fits.order in
+    let all : c.nurses-position-end.result ≡ nurse_count k = c.nurses-position-end.ensures.count in
+    let within : l.position < length order = omega (arith, all, c.loop-position-test.true, l.invariant.faded.fits.count) in
+    let one : get_or order l.position c.index-nurse.result.now < nurse_count k = All-get_or (λ n. n < nurse_count k) order l.position c.index-nurse.result.now within l.invariant.faded.fits.order in
     omega (arith, one, c.index-nurse.ensures)
 
 some_left : (left : ℕ) → (left ≡ 0 → ⊥) → 0 < left
@@ -37,38 +37,38 @@ module _ (c : Meaning) (n meter left new new_left : ℕ) (inside : n < nurse_cou
 pub fade_nurse-searched-requires-clause-room : goal.fade_nurse-searched-requires-clause-room
 fade_nurse-searched-requires-clause-room g c =
     let k = c.args.base.now.case.now in
-    let l = c.loop-place in
-    has_room k c.index-nurse.result.now l.meter l.kicking.searches.left (inside g (goal.at.fade_nurse-searched-requires-clause-room g c).After-index-nurse) (some_left l.kicking.searches.left c.if-kicking-eq0.false) 18446744073709551615
-    (room_left k c.args.meter.now c.args.kicking.now.searches.left l.meter l.kicking.searches.left 18446744073709551615 l.invariant.faded.spends c.requires.able.room)
+    let l = c.loop-position in
+    search_fits_meter k c.index-nurse.result.now l.meter l.kicking.searches.left (inside g (goal.at.fade_nurse-searched-requires-clause-room g c).After-index-nurse) (some_left l.kicking.searches.left c.if-kicking-eq0.false) 18446744073709551615
+    (rest_fits_meter k c.args.meter.now c.args.kicking.now.searches.left l.meter l.kicking.searches.left 18446744073709551615 l.invariant.faded.spends c.requires.able.room)
 
-pub loop-place-preserved : goal.loop-place-preserved
-loop-place-preserved g c =
+pub loop-position-preserved : goal.loop-position-preserved
+loop-position-preserved g c =
     let k = c.args.base.now.case.now in
     let n = c.index-nurse.result.now in
-    let l = c.loop-place in
-    let told = c.fade_nurse-searched.ensures in
+    let l = c.loop-position in
+    let logged = c.fade_nurse-searched.ensures in
     let before = l.invariant.faded in
     let left = l.kicking.searches.left in
     let new_left = c.take_if.new.self.left in
     let some : 0 < left = some_left left c.if-kicking-eq0.false in
-    let both = one_or_none k n l.meter left c.fade_nurse-searched.new.meter new_left (inside g (goal.at.loop-place-preserved g c).After-index-nurse) some c.fade_nurse-searched.result c.take_if.ensures.left told.each_day told.spared told.counted in
+    let both = one_or_none k n l.meter left c.fade_nurse-searched.new.meter new_left (inside g (goal.at.loop-position-preserved g c).After-index-nurse) some c.fade_nurse-searched.result c.take_if.ensures.left logged.each_day logged.spared logged.counted in
     let spends = spent_both k c.args.meter.now c.args.kicking.now.searches.left l.meter left c.fade_nurse-searched.new.meter new_left before.spends both.1 in
     let all = c.args.kicking.now.searches.left in
     -- the first one is searched
-    let fewer : 0 < all → (l.place ≡ 0) ⊎ (l.place ≡ 0 → ⊥) → new_left < all = λ any either. elim either [
+    let fewer : 0 < all → (l.position ≡ 0) ⊎ (l.position ≡ 0 → ⊥) → new_left < all = λ any either. elim either [
       | inl first ↦ (
-          let one : new_left ≡ left - 1 = c.take_if.ensures.left ∙ ap (λ b. left - one_if b) (told.surely (eq-eqb l.place 0 first)) in
+          let one : new_left ≡ left - 1 = c.take_if.ensures.left ∙ ap (λ b. left - one_if b) (logged.surely (eq-eqb l.position 0 first)) in
           omega (arith, one, some, before.spends.fewer))
       | inr later ↦ omega (arith, l.invariant.fewer (omega (arith, later)) any, both.1.fewer)
     ] in
     record {
-      fewer = λ later any. fewer any (cases_eq l.place 0);
+      fewer = λ later any. fewer any (cases_eq l.position 0);
       faded = record {
-        kept = told.kept ∙ before.kept;
-        frozen = told.frozen;
+        kept = logged.kept ∙ before.kept;
+        frozen = logged.frozen;
         passes = before.passes;
         made = made_both k c.args.meter.now c.args.kicking.now.searches.left l.meter left c.fade_nurse-searched.new.meter new_left before.made both.0;
         spends = spends;
-        fits = told.fits;
+        fits = logged.fits;
       };
     }

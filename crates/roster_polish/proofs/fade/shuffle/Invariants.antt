@@ -2,8 +2,8 @@ use Rattle.std.proofs.Common.{◌≡◌, ◌<◌, ℕ, length}
 use Rattle.std.specs.List.{All}
 use Rattle.roster_polish.proofs.fade.shuffle.Given as goal
 
-abbrev pub invariant-loop-place : goal.invariant-loop-place
-invariant-loop-place l = record {
+abbrev pub invariant-loop-position : goal.invariant-loop-position
+invariant-loop-position l = record {
   count : length l.order ≡ length l.fn.order;
   each : (end : ℕ) → All (λ n. n < end) l.fn.order → All (λ n. n < end) l.order;
 }

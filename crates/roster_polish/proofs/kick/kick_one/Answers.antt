@@ -1,6 +1,6 @@
 use Rattle.std.proofs.Common.{◌<◌, ap, arith, refl, rules}
 use Rattle.roster_instance.specs.Meaning.{nurse_count}
-use Rattle.roster_polish.proofs.Steps.{has_room, spent}
+use Rattle.roster_polish.proofs.Steps.{search_fits_meter, spent}
 use Rattle.roster_polish.proofs.kick.kick_one.Goals as goal
 use Rattle.roster_polish.proofs.kick.kick_one.Goals.{After-as_slice}
 
@@ -9,7 +9,7 @@ inside g c = omega (arith, c.below-nurse.ensures, c.nurses.ensures.count, ap nur
 
 pub kick_nurse-requires-clause-room : goal.kick_nurse-requires-clause-room
 kick_nurse-requires-clause-room g c =
-    has_room c.args.held.now.case c.below-nurse.result c.args.meter.now c.args.kicking.now.searches.left (inside g (goal.at.kick_nurse-requires-clause-room g c).After-as_slice) c.requires.left 18446744073709551615 c.requires.able.room
+    search_fits_meter c.args.held.now.case c.below-nurse.result c.args.meter.now c.args.kicking.now.searches.left (inside g (goal.at.kick_nurse-requires-clause-room g c).After-as_slice) c.requires.left 18446744073709551615 c.requires.able.room
 
 pub returns : goal.returns
 returns g c =

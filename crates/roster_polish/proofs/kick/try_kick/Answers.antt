@@ -4,7 +4,7 @@ use Rattle.roster_rules.specs.Penalties.{penalty}
 use Rattle.roster_laws.specs.FrozenDays.{FrozenDaysStay}
 use Rattle.roster_polish.specs.Polished.{FitsPolish}
 use Rattle.roster_polish.specs.Settled.{IsSettled, Spends}
-use Rattle.roster_polish.proofs.Steps.{room_left, spent_both}
+use Rattle.roster_polish.proofs.Steps.{rest_fits_meter, spent_both}
 use Rattle.roster_polish.proofs.kick.try_kick.Goals as goal
 use Rattle.roster_polish.proofs.kick.try_kick.Goals.{After-kick_nurses-first}
 
@@ -19,16 +19,16 @@ pub stay_if_no_dearer-requires : goal.stay_if_no_dearer-requires
 stay_if_no_dearer-requires g c =
     let k = c.args.held.now.case in
     let first = c.kick_nurses-first in
-    let told = first.ensures.kicked in
+    let logged = first.ensures.kicked in
     let kept = kept g (goal.at.stay_if_no_dearer-requires g c).After-kick_nurses-first in
     record {
       able = record {
-        fits = subst (λ (m : Meaning). FitsPolish m first.new.space) (sym told.case) told.fits;
-        room = rw told.case (room_left k c.args.meter.now c.args.kicking.now.searches.left first.new.meter first.new.kicking.searches.left 18446744073709551615 told.spends c.requires.able.room);
+        fits = subst (λ (m : Meaning). FitsPolish m first.new.space) (sym logged.case) logged.fits;
+        room = rw logged.case (rest_fits_meter k c.args.meter.now c.args.kicking.now.searches.left first.new.meter first.new.kicking.searches.left 18446744073709551615 logged.spends c.requires.able.room);
       };
-      keeps = rw (told.case, kept) c.keeps_rules.ensures.keeps;
-      penalty = c.total-penalty.ensures.total ∙ sym (λ i. penalty (told.case i) (kept i));
-      frozen = rw kept (subst (λ (m : Meaning). FrozenDaysStay m c.args.from c.args.held.now.roster first.new.held.roster) (sym told.case) told.frozen);
+      keeps = rw (logged.case, kept) c.keeps_rules.ensures.keeps;
+      penalty = c.total-penalty.ensures.total ∙ sym (λ i. penalty (logged.case i) (kept i));
+      frozen = rw kept (subst (λ (m : Meaning). FrozenDaysStay m c.args.from c.args.held.now.roster first.new.held.roster) (sym logged.case) logged.frozen);
     }
 
 pub returns : goal.returns

@@ -20,9 +20,9 @@ price-price-requires-clause-choice c =
     let shifts = subst (λ (m : Meaning). shift_count m ≤ most_shifts) c.case.ensures c.keeps_limits.ensures.shifts in
     let skills = subst (λ (m : Meaning). skill_count m ≤ most_skills) c.case.ensures c.keeps_limits.ensures.skills in
     let e : Offer = record { choice = Off; price = 0 } in
-    subst (λ (m : Meaning). is_choice_of m (slice_index_or c.deref.result.now c.loop-place.place e).choice ≡ true) (sym c.case-in-loop-place.ensures)
-    (open_of_case k c.args.held.now.roster c.args.nurse c.from_on.result c.args.day c.deref.result.now c.loop-place.place e small shifts skills (c.deref.ensures.0 ∙ c.choices-open.ensures.offers)
-    (omega (arith, c.loop-place-test.true, c.len-place-end.ensures.value, ap length c.deref.ensures.0)))
+    subst (λ (m : Meaning). is_choice_of m (slice_index_or c.deref.result.now c.loop-position.position e).choice ≡ true) (sym c.case-in-loop-position.ensures)
+    (open_of_case k c.args.held.now.roster c.args.nurse c.from_on.result c.args.day c.deref.result.now c.loop-position.position e small shifts skills (c.deref.ensures.0 ∙ c.choices-open.ensures.offers)
+    (omega (arith, c.loop-position-test.true, c.len-position-end.ensures.value, ap length c.deref.ensures.0)))
 
 -- the offers at the prices of the kick, all of them
 offers_are : (c : After-deref-2) → c.deref-2.result.now ≡ offers_by c.args.held.now.case (kick_offered c.args.held.now.case c.args.held.now.roster c.args.nurse c.args.kick.now) (kick_price c.args.held.now.case c.args.held.now.roster c.args.nurse c.args.kick.now) c.args.day
@@ -32,8 +32,8 @@ offers_are c =
     let kick = c.args.kick.now in
     let those = c.choices-open.result.items in
     c.deref-2.ensures.0
-    ∙ c.loop-place.invariant
-    ∙ ap (map (priced_in k c.args.nurse kick c.args.day)) (take_all c.loop-place.place those (omega (arith, c.loop-place-test.false, c.len-place-end.ensures.value)))
+    ∙ c.loop-position.invariant
+    ∙ ap (map (priced_in k c.args.nurse kick c.args.day)) (take_all c.loop-position.position those (omega (arith, c.loop-position-test.false, c.len-position-end.ensures.value)))
     ∙ priced_all k r c.args.nurse kick c.args.day those (c.choices-open.ensures.offers ∙ ap (λ from. offers_of k from r c.args.nurse c.args.day) c.from_on.ensures)
 
 pub cheapest_by_shift-requires : goal.cheapest_by_shift-requires

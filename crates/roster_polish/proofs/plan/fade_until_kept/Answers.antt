@@ -14,44 +14,44 @@ of_either : (P : Rows → Type 0) (b : Bool) (one other it : Rows) → it ≡ (i
 of_either p true one other it same of_one of_other = subst p (sym same) of_one
 of_either p false one other it same of_one of_other = subst p (sym same) of_other
 
--- the nearer of the two is kept: so the least is what it misses, and that is no more than before
-module _ (misses : Rows → ℕ) (kept faded new : Rows) (least new_least : ℕ) (is : least ≡ misses kept) (new_is : new ≡ (if nat_lt (misses faded) least then faded else kept)) (least_is : new_least ≡ min least (misses faded)) where
+-- the nearer of the two is kept: so the least is what it is short of, and that is no more than before
+module _ (short_by : Rows → ℕ) (kept faded new : Rows) (least new_least : ℕ) (is : least ≡ short_by kept) (new_is : new ≡ (if nat_lt (short_by faded) least then faded else kept)) (least_is : new_least ≡ min least (short_by faded)) where
   abbrev both : Type 0
-  both = (new_least ≡ misses new) × (misses new ≤ misses kept)
+  both = (new_least ≡ short_by new) × (short_by new ≤ short_by kept)
 
   least_and_nearer : both
-  least_and_nearer = go (cases_Bool (nat_lt (misses faded) least))
+  least_and_nearer = go (cases_Bool (nat_lt (short_by faded) least))
     where
-      go : (nat_lt (misses faded) least ≡ true) ⊎ (nat_lt (misses faded) least ≡ false) → both
+      go : (nat_lt (short_by faded) least ≡ true) ⊎ (nat_lt (short_by faded) least ≡ false) → both
       go (inl less) =
-          let at : misses new ≡ misses faded = ap misses (new_is ∙ ap (λ (b : Bool). if b then faded else kept) less) in
-          let below : misses faded < least = ltb-true (misses faded) least less in
+          let at : short_by new ≡ short_by faded = ap short_by (new_is ∙ ap (λ (b : Bool). if b then faded else kept) less) in
+          let below : short_by faded < least = ltb-true (short_by faded) least less in
           (omega (arith, least_is, below, at), omega (arith, is, below, at))
       go (inr not_less) =
-          let at : misses new ≡ misses kept = ap misses (new_is ∙ ap (λ (b : Bool). if b then faded else kept) not_less) in
-          let above : least ≤ misses faded = ltb-false (misses faded) least not_less in
+          let at : short_by new ≡ short_by kept = ap short_by (new_is ∙ ap (λ (b : Bool). if b then faded else kept) not_less) in
+          let above : least ≤ short_by faded = ltb-false (short_by faded) least not_less in
           (omega (arith, is, least_is, above, at), omega (arith, at))
 
 pub put_rows-requires : goal.put_rows-requires
-put_rows-requires g c = same_days c.args.base.now.case.now c.fade_and_mend.new.space.faded c.fade_and_mend.new.space.kept c.fade_and_mend.ensures.faded.fits.faded c.fade_and_mend.ensures.faded.fits.kept
+put_rows-requires g c = same_days c.args.base.now.case.now c.fade_and_repair.new.space.faded c.fade_and_repair.new.space.kept c.fade_and_repair.ensures.faded.fits.faded c.fade_and_repair.ensures.faded.fits.kept
 
 pub fades-preserved : goal.fades-preserved
 fades-preserved g c =
     let k = c.args.base.now.case.now in
     let given = c.args.base.now.given.now in
     let l = c.fades in
-    let told = c.fade_and_mend in
-    let faded = told.ensures.faded in
+    let logged = c.fade_and_repair in
+    let faded = logged.ensures.faded in
     let kept = c.keep_if_nearer-least in
     let stay : Rows → Type 0 = FrozenDaysStay k c.args.base.now.from given in
-    let misses : Rows → ℕ = missing k in
-    let nearer_of = λ (rows : keeps_rows k given ≡ true). least_and_nearer misses told.new.space.kept told.new.space.faded kept.new.space.kept l.least kept.result (l.invariant.least rows ∙ ap misses (sym faded.kept)) kept.ensures.kept kept.ensures.least in
+    let short_by : Rows → ℕ = missing k in
+    let nearer_of = λ (rows : keeps_rows k given ≡ true). least_and_nearer short_by logged.new.space.kept logged.new.space.faded kept.new.space.kept l.least kept.result (l.invariant.least rows ∙ ap short_by (sym faded.kept)) kept.ensures.kept kept.ensures.least in
     record {
       least = λ rows. (nearer_of rows).0;
-      nearer = λ rows. omega (arith, (nearer_of rows).1, ap misses faded.kept, l.invariant.nearer rows);
+      nearer = λ rows. omega (arith, (nearer_of rows).1, ap short_by faded.kept, l.invariant.nearer rows);
       passes = omega (arith, c.passes_after-kicking.ensures, faded.passes, l.invariant.passes);
-      frozen = of_either stay (nat_lt (misses told.new.space.faded) l.least) told.new.space.faded told.new.space.kept kept.new.space.kept kept.ensures.kept faded.frozen (subst stay (sym faded.kept) l.invariant.frozen);
-      made = made_both k c.args.meter.now c.args.kicking.now.searches.left l.meter l.kicking.searches.left told.new.meter told.new.kicking.searches.left l.invariant.made faded.made;
-      spends = spent_both k c.args.meter.now c.args.kicking.now.searches.left l.meter l.kicking.searches.left told.new.meter told.new.kicking.searches.left l.invariant.spends faded.spends;
+      frozen = of_either stay (nat_lt (short_by logged.new.space.faded) l.least) logged.new.space.faded logged.new.space.kept kept.new.space.kept kept.ensures.kept faded.frozen (subst stay (sym faded.kept) l.invariant.frozen);
+      made = made_both k c.args.meter.now c.args.kicking.now.searches.left l.meter l.kicking.searches.left logged.new.meter logged.new.kicking.searches.left l.invariant.made faded.made;
+      spends = spent_both k c.args.meter.now c.args.kicking.now.searches.left l.meter l.kicking.searches.left logged.new.meter logged.new.kicking.searches.left l.invariant.spends faded.spends;
       fits = kept.ensures.fits;
     }

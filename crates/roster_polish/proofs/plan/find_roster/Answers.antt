@@ -13,7 +13,7 @@ use Rattle.roster_polish.proofs.plan.find_roster.Goals as goal
 pub put_rows-requires : goal.put_rows-requires
 put_rows-requires g c = same_days c.args.case.now c.fade_until_kept.new.space.kept c.args.roster.now c.fade_until_kept.ensures.fits.kept c.requires.roster
 
--- the searches that are left are as many as were given, at most
+-- at most as many searches are left as were given
 pub overflow_cast-result : goal.overflow_cast-result
 overflow_cast-result g c = omega (arith, c.fade_until_kept.ensures.spends.fewer, c.begin_plan-kicking.ensures.spends.fewer)
 

@@ -10,12 +10,12 @@ pub returns-clause-fits : goal.returns-clause-fits
 returns-clause-fits g c =
     let before = c.requires.fits in
     record {
-      floor = before.floor;
-      known = before.known;
-      kept_known = before.kept_known;
+      bounds = before.bounds;
+      recalls = before.recalls;
+      kept_recalls = before.kept_recalls;
       dearer = before.dearer;
       kept = subst (λ (r : Rows). fits_case c.args.case.now r ≡ true) (sym c.put_rows.ensures) before.faded;
-      pays = before.pays;
+      fade_prices = before.fade_prices;
       faded = before.faded;
       count = before.count;
       order = before.order;

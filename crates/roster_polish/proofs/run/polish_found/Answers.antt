@@ -12,11 +12,11 @@ use Rattle.roster_laws.specs.Greatest.{greatest_extension_count}
 use Rattle.roster_laws.proofs.Frozen.{stays_on}
 use Rattle.roster_rounds.specs.PutIn.{IsAccepted}
 use Rattle.roster_rules.specs.Improver.{line}
-use Rattle.roster_polish.specs.Polished.{FitsPolish, IsFaded, IsReached, first_run, first_searches, kicks_text, last_line, settling_searches}
+use Rattle.roster_polish.specs.Polished.{FitsPolish, IsFaded, IsReached, first_run, first_searches, kicks_text, last_line, descent_searches}
 use Rattle.roster_polish.specs.Settled.{IsSettled, extensions_of}
 use Rattle.roster_polish.proofs.Keeping.{reached_by}
 use Rattle.roster_polish.proofs.KickLogs.{cheaper_breaks, fade_breaks, no_dearer_than, underway_faded, end_breaks, ends, first_kept, first_text, start_breaks, underway_cheaper, underway_first, underway_no_dearer, underway_same}
-use Rattle.roster_polish.proofs.Passes.{settling_few}
+use Rattle.roster_polish.proofs.Passes.{descent_few}
 use Rattle.roster_polish.proofs.Steps.{both_of}
 use Rattle.roster_polish.proofs.run.polish_found.Given as given
 use Rattle.roster_polish.proofs.run.polish_found.Goals as goal
@@ -31,20 +31,20 @@ returns-in_err-sent-clause-err g c =
     (c.keeps_rules.ensures.fits, c.keeps_rules.ensures.keeps)
     (subst (λ text. BreaksIn g.W.Write.contents c.args.log.now c.log_start.new.log 0 text c.in_err-sent.field-0.0) (first_text k c.case.result.now c.args.start c.case.ensures) c.in_err-sent.ensures.err))
 
--- ---- the first settling
+-- ---- the first descent
 
 pub begin-kicking-requires-clause-room : goal.begin-kicking-requires-clause-room
 begin-kicking-requires-clause-room g c =
     let k = c.args.held.now.case in
     let given = c.args.held.now.roster in
-    let told = c.settle_first-settled.ensures in
-    let settling = settling_searches k c.args.course.now.from given in
-    rw told.case (omega (
+    let logged = c.descend_first-settled.ensures in
+    let descent = descent_searches k c.args.course.now.from given in
+    rw logged.case (omega (
       arith,
-      told.counted,
+      logged.counted,
       c.requires.room,
       both_of c.args.course.now.searches (first_searches k) (greatest_extension_count k),
-      mul-le settling (greatest_extension_count k) (first_searches k) (greatest_extension_count k) (settling_few k c.args.course.now.from given) (omega arith),
+      mul-le descent (greatest_extension_count k) (first_searches k) (greatest_extension_count k) (descent_few k c.args.course.now.from given) (omega arith),
     ))
 
 -- ---- the fade
@@ -53,44 +53,44 @@ pub try_fade-requires-clause-able : goal.try_fade-requires-clause-able
 try_fade-requires-clause-able g c =
     let k = c.args.held.now.case in
     let given = c.args.held.now.roster in
-    let told = c.settle_first-settled.ensures in
-    let settling = settling_searches k c.args.course.now.from given in
+    let logged = c.descend_first-settled.ensures in
+    let descent = descent_searches k c.args.course.now.from given in
     record {
       fits = c.begin-kicking.ensures.fits;
-      room = rw told.case (omega (
+      room = rw logged.case (omega (
         arith,
-        told.counted,
+        logged.counted,
         c.requires.room,
         c.begin-kicking.ensures.counted,
-        ap (λ (m : Meaning). extensions_of m c.begin-kicking.result.searches.left) told.case,
-        ap (λ (m : Meaning). extensions_of m c.args.course.now.searches) told.case,
+        ap (λ (m : Meaning). extensions_of m c.begin-kicking.result.searches.left) logged.case,
+        ap (λ (m : Meaning). extensions_of m c.args.course.now.searches) logged.case,
         both_of c.args.course.now.searches (first_searches k) (greatest_extension_count k),
-        mul-le settling (greatest_extension_count k) (first_searches k) (greatest_extension_count k) (settling_few k c.args.course.now.from given) (omega arith),
+        mul-le descent (greatest_extension_count k) (first_searches k) (greatest_extension_count k) (descent_few k c.args.course.now.from given) (omega arith),
       ));
     }
 
--- the fade leaves the case, and what is so of its case is so of the given one
+-- the fade leaves the case, and what holds of its case holds of the given one
 case_is : (g : given.Over) (c : After-try_fade g) → c.try_fade.new.held.case ≡ c.args.held.now.case
-case_is g c = c.try_fade.ensures.tried.case ∙ c.settle_first-settled.ensures.case
+case_is g c = c.try_fade.ensures.tried.case ∙ c.descend_first-settled.ensures.case
 
-at_given : (g : given.Over) (c : After-try_fade g) (P : Meaning → Type 0) → P c.settle_first-settled.new.held.case → P c.args.held.now.case
-at_given g c P told = subst P c.settle_first-settled.ensures.case told
+at_given : (g : given.Over) (c : After-try_fade g) (P : Meaning → Type 0) → P c.descend_first-settled.new.held.case → P c.args.held.now.case
+at_given g c P logged = subst P c.descend_first-settled.ensures.case logged
 
 frozen : (g : given.Over) (c : After-try_fade g) → FrozenDaysStay c.args.held.now.case c.args.course.now.from c.args.held.now.roster c.try_fade.new.held.roster
 frozen g c =
     let k = c.args.held.now.case in
     let from = c.args.course.now.from in
     let start = c.args.held.now.roster in
-    let first = c.settle_first-settled.new.held.roster in
+    let first = c.descend_first-settled.new.held.roster in
     let accepted : IsAccepted k start = (c.keeps_rules.ensures.fits, c.keeps_rules.ensures.keeps) in
-    stays_on k from start first c.try_fade.new.held.roster (subst (FrozenDaysStay k from start) (sym c.settle_first-settled.ensures.roster) (first_kept k from start c.args.start c.args.course.now.kicks_alone accepted).stays)
+    stays_on k from start first c.try_fade.new.held.roster (subst (FrozenDaysStay k from start) (sym c.descend_first-settled.ensures.roster) (first_kept k from start c.args.start c.args.course.now.kicks_alone accepted).stays)
     (at_given g c (λ (m : Meaning). FrozenDaysStay m from first c.try_fade.new.held.roster) c.try_fade.ensures.tried.frozen)
 
 no_dearer : (g : given.Over) (c : After-try_fade g) → penalty c.args.held.now.case c.try_fade.new.held.roster ≤ penalty c.args.held.now.case (first_run c.args.held.now.case c.args.course.now.from c.args.held.now.roster).roster
 no_dearer g c =
     let next = c.try_fade.new.held.roster in
-    subst (λ r. penalty c.args.held.now.case next ≤ penalty c.args.held.now.case r) c.settle_first-settled.ensures.roster
-    (at_given g c (λ (m : Meaning). penalty m next ≤ penalty m c.settle_first-settled.new.held.roster) c.try_fade.ensures.tried.no_dearer)
+    subst (λ r. penalty c.args.held.now.case next ≤ penalty c.args.held.now.case r) c.descend_first-settled.ensures.roster
+    (at_given g c (λ (m : Meaning). penalty m next ≤ penalty m c.descend_first-settled.new.held.roster) c.try_fade.ensures.tried.no_dearer)
 
 -- the log's first line is sent
 begun_log : (g : given.Over) (c : After-try_fade g) → Sends g.W.Write.contents c.args.log.now c.log_start.new.log 0 c.in_ok-sent.sent (kicks_text c.args.held.now.case c.args.start None [])
@@ -135,7 +135,7 @@ loop-kicks_before-init g c =
     let from = c.args.course.now.from in
     let start = c.args.held.now.roster in
     let alone = c.args.course.now.kicks_alone in
-    let told = c.settle_first-settled.ensures in
+    let logged = c.descend_first-settled.ensures in
     let f = c.try_fade.ensures.tried in
     let next = c.try_fade.new.held.roster in
     record {
@@ -149,19 +149,19 @@ loop-kicks_before-init g c =
             (faded g at w.if-try_fade.true w.keeps_rules-then-try_fade.ensures.fits w.keeps_rules-then-try_fade.ensures.keeps) w.log_word.new.log w.in_ok-sent-2.sent
             (subst (λ n. Sends g.W.Write.contents c.log_start.new.log w.log_word.new.log c.in_ok-sent.sent w.in_ok-sent-2.sent (line (codes "fade") n)) total w.in_ok-sent-2.ensures.ok)))
         | else-try_fade w ↦
-            rw (w.log-is, w.sent-is, w.settled-is, f.back w.if-try_fade.false, told.roster, told.settled) (underway_first k from start c.args.start alone g.W.Write.contents c.args.log.now c.log_start.new.log c.in_ok-sent.sent (begun_log g at))
+            rw (w.log-is, w.sent-is, w.settled-is, f.back w.if-try_fade.false, logged.roster, logged.settled) (underway_first k from start c.args.start alone g.W.Write.contents c.args.log.now c.log_start.new.log c.in_ok-sent.sent (begun_log g at))
       ];
       counted = omega (
         arith,
-        told.counted,
+        logged.counted,
         c.begin-kicking.ensures.counted,
         f.spends.counted,
-        ap (λ (m : Meaning). extensions_of m c.try_fade.new.kicking.searches.left) told.case,
-        ap (λ (m : Meaning). extensions_of m c.begin-kicking.result.searches.left) told.case,
-        ap (λ (m : Meaning). extensions_of m c.args.course.now.searches) told.case,
-        both_of c.args.course.now.searches (settling_searches k from start) (greatest_extension_count k),
+        ap (λ (m : Meaning). extensions_of m c.try_fade.new.kicking.searches.left) logged.case,
+        ap (λ (m : Meaning). extensions_of m c.begin-kicking.result.searches.left) logged.case,
+        ap (λ (m : Meaning). extensions_of m c.args.course.now.searches) logged.case,
+        both_of c.args.course.now.searches (descent_searches k from start) (greatest_extension_count k),
       );
-      fits = subst (λ (m : Meaning). FitsPolish m c.try_fade.new.space) told.case f.fits;
+      fits = subst (λ (m : Meaning). FitsPolish m c.try_fade.new.space) logged.case f.fits;
     }
 
 -- ---- a kick
@@ -171,16 +171,16 @@ try_kick-requires-clause-able g c =
     let k = c.args.held.now.case in
     let given = c.args.held.now.roster in
     let l = c.loop-kicks_before in
-    let settling = settling_searches k c.args.course.now.from given in
+    let descent = descent_searches k c.args.course.now.from given in
     rw l.invariant.case (record {
       fits = l.invariant.fits;
       room = omega (
         arith,
         l.invariant.counted,
         c.requires.room,
-        both_of c.args.course.now.searches settling (greatest_extension_count k),
+        both_of c.args.course.now.searches descent (greatest_extension_count k),
         both_of c.args.course.now.searches (first_searches k) (greatest_extension_count k),
-        mul-le settling (greatest_extension_count k) (first_searches k) (greatest_extension_count k) (settling_few k c.args.course.now.from given) (omega arith),
+        mul-le descent (greatest_extension_count k) (first_searches k) (greatest_extension_count k) (descent_few k c.args.course.now.from given) (omega arith),
       );
     })
 
@@ -189,22 +189,22 @@ loop-kicks_before-preserved-then-not-try_kick g c =
     let k = c.args.held.now.case in
     let l = c.loop-kicks_before in
     let i = l.invariant in
-    let told = c.try_kick.ensures.tried in
-    let back = told.back c.if-not-try_kick.true in
+    let logged = c.try_kick.ensures.tried in
+    let back = logged.back c.if-not-try_kick.true in
     record {
-      case = told.case ∙ i.case;
-      kept = told.kept;
+      case = logged.case ∙ i.case;
+      kept = logged.kept;
       frozen = subst (FrozenDaysStay k c.args.course.now.from c.args.held.now.roster) (sym back) i.frozen;
       going = underway_same k c.args.course.now.from c.args.held.now.roster c.args.start c.args.course.now.kicks_alone g.W.Write.contents c.args.log.now l.log l.kicks_before l.sent l.settled l.held.roster i.going l.settled c.try_kick.new.held.roster (ap (penalty k) back)
           (λ e. subst (IsSettled k c.args.course.now.from) (sym back) (i.going.is_settled e)) (λ e. e);
       counted = omega (
         arith,
         i.counted,
-        told.spends.counted,
+        logged.spends.counted,
         ap (λ (m : Meaning). extensions_of m c.try_kick.new.kicking.searches.left) i.case,
         ap (λ (m : Meaning). extensions_of m l.kicking.searches.left) i.case,
       );
-      fits = subst (λ (m : Meaning). FitsPolish m c.try_kick.new.space) i.case told.fits;
+      fits = subst (λ (m : Meaning). FitsPolish m c.try_kick.new.space) i.case logged.fits;
     }
 
 -- the roster after a kick that stayed is settled, and may be kept
@@ -246,12 +246,12 @@ loop-kicks_before-preserved g c =
     let start = c.args.held.now.roster in
     let l = c.loop-kicks_before in
     let i = l.invariant in
-    let told = c.try_kick.ensures.tried in
+    let logged = c.try_kick.ensures.tried in
     let next = c.try_kick.new.held.roster in
-    let less : penalty k next ≤ penalty k l.held.roster = subst (λ (m : Meaning). penalty m next ≤ penalty m l.held.roster) i.case told.no_dearer in
+    let less : penalty k next ≤ penalty k l.held.roster = subst (λ (m : Meaning). penalty m next ≤ penalty m l.held.roster) i.case logged.no_dearer in
     record {
-      case = told.case ∙ i.case;
-      kept = told.kept;
+      case = logged.case ∙ i.case;
+      kept = logged.kept;
       frozen = (reached g at).stays;
       going = elim c.if-total-before.branch [
         | then-total-before+in_ok-sent-3 w ↦
@@ -265,11 +265,11 @@ loop-kicks_before-preserved g c =
       counted = omega (
         arith,
         i.counted,
-        told.spends.counted,
+        logged.spends.counted,
         ap (λ (m : Meaning). extensions_of m c.try_kick.new.kicking.searches.left) i.case,
         ap (λ (m : Meaning). extensions_of m l.kicking.searches.left) i.case,
       );
-      fits = subst (λ (m : Meaning). FitsPolish m c.try_kick.new.space) i.case told.fits;
+      fits = subst (λ (m : Meaning). FitsPolish m c.try_kick.new.space) i.case logged.fits;
     }
 
 pub returns-in_err-sent-3-clause-no_dearer : goal.returns-in_err-sent-3-clause-no_dearer

@@ -3,33 +3,33 @@ use Rattle.std.proofs.lemmas.Bool.{true≢false}
 use Rattle.roster_instance.specs.Meaning.{Meaning}
 use Rattle.roster_case.specs.Held.{HeldRoster}
 use Rattle.roster_offers.specs.Workspaces.{fits_space}
-use Rattle.roster_row.specs.Known.{IsKnown}
+use Rattle.roster_row.specs.Recalled.{RecallsSearches}
 use Rattle.roster_rules.specs.Penalties.{penalty}
 use Rattle.roster_laws.proofs.Frozen.{stays_on, stays_self}
 use Rattle.roster_polish.specs.Polished.{FitsPolish}
 use Rattle.roster_polish.specs.declared.space.PolishSpace.{PolishSpace}
 use Rattle.roster_polish.proofs.stay.stay_if_no_dearer.Goals as goal
 
-pub settle-settled-requires : goal.settle-settled-requires
-settle-settled-requires g c = record { fits = c.requires.able.fits.floor.rows.search; known = c.requires.able.fits.known; room = c.requires.able.room }
+pub descend-settled-requires : goal.descend-settled-requires
+descend-settled-requires g c = record { fits = c.requires.able.fits.bounds.rows.search; recalls = c.requires.able.fits.recalls; room = c.requires.able.room }
 
--- the memory serves after a settling, which puts into the workspace and what the last searches tell
-settled_fits : {T : Type 0} (k : Meaning) (w : PolishSpace T) (s : _) (l : _) → FitsPolish k w → fits_space k s ≡ true → IsKnown k l
-    → FitsPolish k (record w { floor = record w.floor { rows = record w.floor.rows { workspace = s } }; last = l })
-settled_fits k w s l fits search known = record {
-  floor = record {
-    rows = record { search = search; cover = fits.floor.rows.cover };
-    worths = fits.floor.worths;
-    tried = fits.floor.tried;
-    wanted = fits.floor.wanted;
-    had = fits.floor.had;
-    seen = fits.floor.seen;
+-- the memory serves after a descent, which writes into the workspace and the last searches alone
+descent_fits : {T : Type 0} (k : Meaning) (w : PolishSpace T) (s : _) (l : _) → FitsPolish k w → fits_space k s ≡ true → RecallsSearches k l
+    → FitsPolish k (record w { bounds = record w.bounds { rows = record w.bounds.rows { workspace = s } }; last = l })
+descent_fits k w s l fits search recalls = record {
+  bounds = record {
+    rows = record { search = search; cover = fits.bounds.rows.cover };
+    dual_prices = fits.bounds.dual_prices;
+    tried = fits.bounds.tried;
+    wanted = fits.bounds.wanted;
+    had = fits.bounds.had;
+    pool = fits.bounds.pool;
   };
-  known = known;
-  kept_known = fits.kept_known;
+  recalls = recalls;
+  kept_recalls = fits.kept_recalls;
   dearer = fits.dearer;
   kept = fits.kept;
-  pays = fits.pays;
+  fade_prices = fits.fade_prices;
   faded = fits.faded;
   count = fits.count;
   order = fits.order;
@@ -38,13 +38,13 @@ settled_fits k w s l fits search known = record {
 -- ---- it stays
 
 pub keep-requires : goal.keep-requires
-keep-requires g c = rw c.settle-settled.ensures.case (settled_fits c.args.held.now.case c.args.space.now c.settle-settled.new.workspace c.settle-settled.new.last c.requires.able.fits c.settle-settled.ensures.fits c.settle-settled.ensures.known)
+keep-requires g c = rw c.descend-settled.ensures.case (descent_fits c.args.held.now.case c.args.space.now c.descend-settled.new.workspace c.descend-settled.new.last c.requires.able.fits c.descend-settled.ensures.fits c.descend-settled.ensures.recalls)
 
 pub returns-then-total-aim : goal.returns-then-total-aim
 returns-then-total-aim g c =
     let k = c.args.held.now.case in
     let week = c.args.aim.from in
-    let last = c.settle-settled in
+    let last = c.descend-settled in
     let next = last.new.held.roster in
     record {
       tried = record {
@@ -62,26 +62,26 @@ returns-then-total-aim g c =
 -- ---- it doesn't
 
 pub replace_rows-requires : goal.replace_rows-requires
-replace_rows-requires g c = rw c.settle-settled.ensures.case (record { fits = c.requires.able.fits.kept; keeps = c.requires.keeps })
+replace_rows-requires g c = rw c.descend-settled.ensures.case (record { fits = c.requires.able.fits.kept; keeps = c.requires.keeps })
 
 pub put-requires : goal.put-requires
-put-requires g c = (c.args.held.now.case, c.settle-settled.ensures.known, c.requires.able.fits.kept_known)
+put-requires g c = (c.args.held.now.case, c.descend-settled.ensures.recalls, c.requires.able.fits.kept_recalls)
 
 pub returns-else-settled : goal.returns-else-settled
 returns-else-settled g c =
     let k = c.args.held.now.case in
-    let told = c.settle-settled.ensures in
+    let logged = c.descend-settled.ensures in
     let fits = c.requires.able.fits in
     let back : c.replace_rows.new.self.roster ≡ c.args.space.now.kept = ap (λ (h : HeldRoster). h.roster) c.replace_rows.ensures in
     record {
       tried = record {
-        case = ap (λ (h : HeldRoster). h.case) c.replace_rows.ensures ∙ told.case;
+        case = ap (λ (h : HeldRoster). h.case) c.replace_rows.ensures ∙ logged.case;
         kept = sym back;
         stayed = λ e. absurd (true≢false (sym e));
         back = λ e. back;
         frozen = rw back (stays_self k c.args.aim.from c.args.space.now.kept);
         no_dearer = omega (arith, ap (penalty k) back);
-        spends = told.spends;
-        fits = settled_fits k c.args.space.now c.settle-settled.new.workspace c.put.new.self fits told.fits (c.put.ensures.known k fits.kept_known);
+        spends = logged.spends;
+        fits = descent_fits k c.args.space.now c.descend-settled.new.workspace c.put.new.self fits logged.fits (c.put.ensures.recalls k fits.kept_recalls);
       };
     }

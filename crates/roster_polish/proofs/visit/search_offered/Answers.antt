@@ -1,21 +1,21 @@
 use Rattle.std.proofs.Common.{◌≡◌, ◌∙◌, subst, sym}
 use Rattle.roster_offers.specs.Lists.{AreOffers}
-use Rattle.roster_places.specs.Tables.{worths_of}
-use Rattle.roster_worths.proofs.RowFloors.{can_search, floor_row_is, some_found}
+use Rattle.roster_slots.specs.Tables.{slot_prices}
+use Rattle.roster_prices.proofs.RowBounds.{can_search, row_by_dual_prices_is, some_found}
 use Rattle.roster_polish.proofs.visit.search_offered.Goals as goal
 use Rattle.roster_polish.proofs.visit.search_offered.Goals.{After-offers}
 
 pub search_offers-cost-requires-clause-offers : goal.search_offers-cost-requires-clause-offers
 search_offers-cost-requires-clause-offers g c =
     let t = c.args.terms.now in
-    can_search t.case.now t.from t.given.now (worths_of t.worths.now) c.args.nurse t.rows c.requires.nurse c.args.workspace.now.offers c.requires.offers c.keeps_limits.ensures.small.keep
+    can_search t.case.now t.from t.given.now (slot_prices t.dual_prices.now) c.args.nurse t.rows c.requires.nurse c.args.workspace.now.offers c.requires.offers c.keeps_limits.ensures.small.keep
 
 pub search_offers-cost-requires-clause-some : goal.search_offers-cost-requires-clause-some
 search_offers-cost-requires-clause-some g c =
     let t = c.args.terms.now in
-    some_found t.case.now t.from t.given.now (worths_of t.worths.now) c.args.nurse t.rows c.requires.nurse c.args.workspace.now.offers c.requires.offers
+    some_found t.case.now t.from t.given.now (slot_prices t.dual_prices.now) c.args.nurse t.rows c.requires.nurse c.args.workspace.now.offers c.requires.offers
 
--- what it went over
+-- the offers that the search went over
 those : (g : _) (c : After-offers g) → c.offers.result.now ≡ c.args.workspace.now.offers
 those g c = c.offers.ensures ∙ c.search_offers-cost.ensures.offers
 
@@ -23,9 +23,9 @@ pub remember-requires-clause-offers : goal.remember-requires-clause-offers
 remember-requires-clause-offers g c =
     let t = c.args.terms.now in
     subst (AreOffers t.case.now c.args.nurse) (sym (those g (goal.at.remember-requires-clause-offers g c).After-offers))
-    (can_search t.case.now t.from t.given.now (worths_of t.worths.now) c.args.nurse t.rows c.requires.nurse c.args.workspace.now.offers c.requires.offers c.keeps_limits.ensures.small.keep)
+    (can_search t.case.now t.from t.given.now (slot_prices t.dual_prices.now) c.args.nurse t.rows c.requires.nurse c.args.workspace.now.offers c.requires.offers c.keeps_limits.ensures.small.keep)
 
 pub returns-clause-row : goal.returns-clause-row
 returns-clause-row g c =
     let t = c.args.terms.now in
-    floor_row_is t.case.now t.from t.given.now (worths_of t.worths.now) c.args.nurse t.rows c.requires.nurse c.args.workspace.now.offers c.requires.offers c.search_offers-cost.result c.search_offers-cost.new.self.row c.search_offers-cost.ensures.best
+    row_by_dual_prices_is t.case.now t.from t.given.now (slot_prices t.dual_prices.now) c.args.nurse t.rows c.requires.nurse c.args.workspace.now.offers c.requires.offers c.search_offers-cost.result c.search_offers-cost.new.self.row c.search_offers-cost.ensures.best

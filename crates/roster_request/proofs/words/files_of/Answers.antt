@@ -9,7 +9,7 @@ use Rattle.roster_request.proofs.words.files_of.Goals as goal
 pub loop-file-preserved : goal.loop-file-preserved
 loop-file-preserved c = grind (arith, common_steps)
 
--- the default of a slice that may be missing, as texts
+-- the default for a slice that may be missing, as texts
 texts_or : (o : Option (Bor (List (Bor Text)))) (d : Bor (List (Bor Text))) → map (λ (v : Bor Text). v.now) d.now ≡ []
     → map (λ (v : Bor Text). v.now) (unwrap_or o d).now ≡ unwrap_or (option_map (λ (s : Bor (List (Bor Text))). map (λ (v : Bor Text). v.now) s.now) o) []
 texts_or None d e = e

@@ -20,7 +20,7 @@ OnOk-always : {X E : Type 0} (r : Result X E) (P : Type 0) → P → OnOk r P
 OnOk-always (Ok x) P p = p
 OnOk-always (Err e) P p = tt
 
--- what holds of the command that words without a fault name holds of the matches that clap has for them
+-- what holds for the command that words without a fault name holds for the matches that clap has for them
 holds_of_matches : (P : Option (Text × List Row) → Type 0) (words : List Text) (a : App) (m : ArgMatches) → a ≡ program → HasMatchesOf a words m
     → (is_simple_and_free a ≡ true → fault_of a words ≡ []) → ((w : List Text) → fault_of program w ≡ [] → P (subcommand_of program w)) → P (subcommand_rows_of m)
 holds_of_matches P words a m same matches kinds holds =

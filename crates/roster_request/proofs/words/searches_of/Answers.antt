@@ -9,7 +9,7 @@ use Rattle.roster_request.proofs.NumberLemmas.{number_read}
 use Rattle.roster_request.proofs.words.searches_of.Goals as goal
 use Rattle.roster_request.proofs.words.searches_of.Goals.{After-get_one}
 
--- a number of the range, or none
+-- a number in the range, or none
 abbrev IsGiven : Text → ℕ → List Row → Option ℕ → Type 0
 IsGiven name most rows o = IsNumberIfGiven name o rows × IfSome o (λ n. n ≤ most)
 

@@ -6,8 +6,8 @@ use Rattle.roster_rounds.proofs.room.greatest_extensions.Goals as goal
 
 pub loop-nurse-preserved : goal.loop-nurse-preserved
 loop-nurse-preserved c = record {
-  so_far = greatest_more (extension_count c.args.case.now) c.loop-nurse.nurse _ _ _ c.loop-nurse.invariant.so_far c.most_steps.ensures.count c.max-greatest.ensures;
-  within = omega (arith, c.max-greatest.ensures, c.loop-nurse.invariant.within, c.most_steps.ensures.within);
+  so_far = greatest_more (extension_count c.args.case.now) c.loop-nurse.nurse _ _ _ c.loop-nurse.invariant.so_far c.most_search_extensions.ensures.count c.max-greatest.ensures;
+  within = omega (arith, c.max-greatest.ensures, c.loop-nurse.invariant.within, c.most_search_extensions.ensures.within);
 }
 
 pub returns-clause-greatest : goal.returns-clause-greatest

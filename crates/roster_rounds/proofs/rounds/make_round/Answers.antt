@@ -22,7 +22,7 @@ pub step-step-requires-clause-room : goal.step-step-requires-clause-room
 step-step-requires-clause-room g c =
     step_room c.args.held.now.case c.loop-nurse.held.case c.loop-nurse.invariant.case_is c.loop-nurse.nurse c.args.meter.now c.loop-nurse.meter c.loop-nurse.invariant.counted (inside g (goal.at.step-step-requires-clause-room g c).In-loop-nurse) 18446744073709551615 c.requires.room
 
--- the step in the case of the round
+-- what the step does, in terms of the round's case
 taken : (g : _) (c : After-step-step g) → c.step-step.new.held.roster ≡ step c.args.held.now.case (best_row c.args.held.now.case c.args.plan.from) c.loop-nurse.held.roster c.loop-nurse.nurse
 taken g c = c.step-step.ensures.roster ∙ ap (λ (m : Meaning). step m (best_row m c.args.plan.from) c.loop-nurse.held.roster c.loop-nurse.nurse) c.loop-nurse.invariant.case_is
 
@@ -33,7 +33,7 @@ counted g c within =
 pub step-step-requires-clause-ready : goal.step-step-requires-clause-ready
 step-step-requires-clause-ready g c = subst (λ (m : Meaning). g.S.Steps.IsReady m c.loop-nurse.steps) (sym c.loop-nurse.invariant.case_is) c.loop-nurse.invariant.ready
 
--- what makes the steps is ready for the next one
+-- the `Steps` value is ready for the next step
 ready : (g : _) (c : After-step-step g) → g.S.Steps.IsReady c.args.held.now.case c.step-step.new.self
 ready g c = subst (λ (m : Meaning). g.S.Steps.IsReady m c.step-step.new.self) c.loop-nurse.invariant.case_is c.step-step.ensures.ready
 
@@ -53,7 +53,7 @@ loop-nurse-preserved-then-not-step g c =
       so_far = SoFar-same _ _ _ _ _ _ _ c.loop-nurse.held.roster c.step-step.new.held.roster _ _ _ c.loop-nurse.nurse i.so_far (taken g at) (unchanged c.step-step.result.changed _ c.step-step.ensures.changed c.if-not-step.true);
       counted = counted g at (inside g (goal.at.loop-nurse-preserved-then-not-step g c).In-loop-nurse);
       frozen = stayed g at;
-      same_room = same_after _ _ _ i.same_room c.step-step.ensures.same_room;
+      same_capacity = same_after _ _ _ i.same_capacity c.step-step.ensures.same_capacity;
       ready = ready g at;
     }
 
@@ -75,7 +75,7 @@ loop-nurse-preserved g c =
           (subst (Sends g.W.Write.contents c.loop-nurse.log c.log_change.new.log c.loop-nurse.sent c.in_ok-sent.sent) (line_is g (goal.at.loop-nurse-preserved g c).After-nurse_name) c.in_ok-sent.ensures.ok);
       counted = counted g at (inside g (goal.at.loop-nurse-preserved g c).In-loop-nurse);
       frozen = stayed g at;
-      same_room = same_after _ _ _ i.same_room c.step-step.ensures.same_room;
+      same_capacity = same_after _ _ _ i.same_capacity c.step-step.ensures.same_capacity;
       ready = ready g at;
     }
 

@@ -16,7 +16,7 @@ use Rattle.roster_rounds.proofs.rounds.make_rounds.Given as given
 use Rattle.roster_rounds.proofs.rounds.make_rounds.Goals as goal
 use Rattle.roster_rounds.proofs.rounds.make_rounds.Goals.{After-make_round, In_ok-made}
 
--- the round that was made, in the case of the beginning
+-- what the round did, in terms of the case at the beginning
 made_is : (g : given.Over) (c : In_ok-made g) → RoundMade g.W.Write.contents c.args.held.now.case (best_row c.args.held.now.case c.args.from) (c.loop-rounds_before.rounds_before + 1) c.loop-rounds_before.held.roster c.make_round.new.held.roster c.loop-rounds_before.log c.make_round.new.log c.loop-rounds_before.sent c.in_ok-made.made.sent c.in_ok-made.made.changes
 made_is g c =
     let l = c.loop-rounds_before in
@@ -30,7 +30,7 @@ stayed g c =
     stays_on c.args.held.now.case c.args.from c.args.held.now.roster l.held.roster c.make_round.new.held.roster l.invariant.frozen
     (subst (λ (m : Meaning). FrozenDaysStay m c.args.from l.held.roster c.make_round.new.held.roster) l.invariant.case_is c.make_round.ensures.frozen)
 
--- what makes the steps is ready for the next round
+-- the `Steps` value is ready for the next round
 ready : (g : given.Over) (c : After-make_round g) → g.S.Steps.IsReady c.args.held.now.case c.make_round.new.steps
 ready g c = subst (λ (m : Meaning). g.S.Steps.IsReady m c.make_round.new.steps) c.loop-rounds_before.invariant.case_is c.make_round.ensures.ready
 
@@ -48,7 +48,7 @@ loop-rounds_before-init g c =
       case_is = refl;
       counted = omega arith;
       frozen = stays_self c.args.held.now.case c.args.from c.args.held.now.roster;
-      same_room = same_self _;
+      same_capacity = same_self _;
       ready = c.requires.ready;
       going = Going-start g.W.Write.contents c.args.held.now.case (best_row c.args.held.now.case c.args.from) c.args.rounds c.args.held.now.roster c.args.log.now c.log_start.new.log c.in_ok-sent.sent
           (subst (Sends g.W.Write.contents c.args.log.now c.log_start.new.log 0 c.in_ok-sent.sent) line c.in_ok-sent.ensures.ok);
@@ -106,7 +106,7 @@ loop-rounds_before-preserved g c =
       case_is = c.make_round.ensures.case ∙ l.invariant.case_is;
       counted = round_counted case l.held.case l.invariant.case_is l.rounds_before c.args.meter.now l.meter l.invariant.counted c.make_round.new.meter c.make_round.ensures.counted;
       frozen = stayed g (goal.at.loop-rounds_before-preserved g c).After-make_round;
-      same_room = same_after _ _ _ l.invariant.same_room c.make_round.ensures.same_room;
+      same_capacity = same_after _ _ _ l.invariant.same_capacity c.make_round.ensures.same_capacity;
       ready = ready g (goal.at.loop-rounds_before-preserved g c).After-make_round;
       going = Going-round contents case (best_row case c.args.from) c.args.rounds c.args.held.now.roster c.args.log.now now next l.log c.make_round.new.log l.sent made.sent l.changes l.rounds_before made.changes l.invariant.going
           c.loop-rounds_before-test.true round (omega (arith, c.if-made-eq0.false));
@@ -154,8 +154,8 @@ returns-in_err-made-clause-counted g c =
     let l = c.loop-rounds_before in
     round_within c.args.held.now.case l.held.case l.invariant.case_is l.rounds_before c.args.meter.now l.meter l.invariant.counted c.args.rounds c.make_round.new.meter c.loop-rounds_before-test.true c.make_round.ensures.counted
 
-pub returns-in_err-made-clause-same_room : goal.returns-in_err-made-clause-same_room
-returns-in_err-made-clause-same_room g c = same_after _ _ _ c.loop-rounds_before.invariant.same_room c.make_round.ensures.same_room
+pub returns-in_err-made-clause-same_capacity : goal.returns-in_err-made-clause-same_capacity
+returns-in_err-made-clause-same_capacity g c = same_after _ _ _ c.loop-rounds_before.invariant.same_capacity c.make_round.ensures.same_capacity
 
 pub returns-in_err-made-clause-ready : goal.returns-in_err-made-clause-ready
 returns-in_err-made-clause-ready g c = ready g (goal.at.returns-in_err-made-clause-ready g c).After-make_round
@@ -171,8 +171,8 @@ returns-in_err-log_word-clause-counted g c =
     let l = c.loop-rounds_before in
     round_within c.args.held.now.case l.held.case l.invariant.case_is l.rounds_before c.args.meter.now l.meter l.invariant.counted c.args.rounds c.make_round.new.meter c.loop-rounds_before-test.true c.make_round.ensures.counted
 
-pub returns-in_err-log_word-clause-same_room : goal.returns-in_err-log_word-clause-same_room
-returns-in_err-log_word-clause-same_room g c = same_after _ _ _ c.loop-rounds_before.invariant.same_room c.make_round.ensures.same_room
+pub returns-in_err-log_word-clause-same_capacity : goal.returns-in_err-log_word-clause-same_capacity
+returns-in_err-log_word-clause-same_capacity g c = same_after _ _ _ c.loop-rounds_before.invariant.same_capacity c.make_round.ensures.same_capacity
 
 pub returns-in_err-log_word-clause-ready : goal.returns-in_err-log_word-clause-ready
 returns-in_err-log_word-clause-ready g c = ready g (goal.at.returns-in_err-log_word-clause-ready g c).After-make_round
@@ -188,8 +188,8 @@ returns-then-made-eq0-clause-counted g c =
     let l = c.loop-rounds_before in
     round_within c.args.held.now.case l.held.case l.invariant.case_is l.rounds_before c.args.meter.now l.meter l.invariant.counted c.args.rounds c.make_round.new.meter c.loop-rounds_before-test.true c.make_round.ensures.counted
 
-pub returns-then-made-eq0-clause-same_room : goal.returns-then-made-eq0-clause-same_room
-returns-then-made-eq0-clause-same_room g c = same_after _ _ _ c.loop-rounds_before.invariant.same_room c.make_round.ensures.same_room
+pub returns-then-made-eq0-clause-same_capacity : goal.returns-then-made-eq0-clause-same_capacity
+returns-then-made-eq0-clause-same_capacity g c = same_after _ _ _ c.loop-rounds_before.invariant.same_capacity c.make_round.ensures.same_capacity
 
 pub returns-then-made-eq0-clause-ready : goal.returns-then-made-eq0-clause-ready
 returns-then-made-eq0-clause-ready g c = ready g (goal.at.returns-then-made-eq0-clause-ready g c).After-make_round

@@ -4,8 +4,8 @@ use Rattle.std.proofs.lemmas.Grind.{common_steps}
 use Rattle.std.proofs.lemmas.List.{get_or_default}
 use Rattle.roster_offers.specs.declared.offer.Offer.{Offer}
 use Rattle.roster_instance.specs.Choices.{shift_of}
-use Rattle.roster_row.specs.Known.{not_offered, price_place}
-use Rattle.roster_row.proofs.KnownLaws.{dearer_more}
+use Rattle.roster_row.specs.Recalled.{not_offered, price_index}
+use Rattle.roster_row.proofs.RecallLaws.{dearer_more}
 use Rattle.roster_row.proofs.last.change_since.Goals as goal
 
 greater : (x y : ℕ) → ord_max nat_cmp x y ≡ max x y
@@ -20,9 +20,9 @@ loop-offer-preserved c =
     let fall : c.max-fall.result ≡ max c.loop-offer.fall c.saturating_sub-in-loop-offer.result = c.max-fall.ensures ∙ greater _ _ in
     dearer_more prices offers index c.loop-offer.rise c.loop-offer.fall c.min-rise.result c.max-fall.result (omega (arith, c.min-rise.ensures)) (omega (arith, fall)) c.loop-offer.invariant (λ d.
     let same = get_or_default offers index _ d inside in
-    let at = c.price_place.ensures ∙ ap (λ (o : Offer). price_place (shift_of o.choice)) same in
+    let at = c.price_index.ensures ∙ ap (λ (o : Offer). price_index (shift_of o.choice)) same in
     record {
-      place = c.requires.places index d inside;
+      index = c.requires.indices index d inside;
       offered = subst (λ p. slice_index prices p ≢ not_offered) at c.if-before.false;
       price = omega (arith, c.min-rise.ensures, fall, c.saturating_sub.ensures, c.saturating_sub-in-loop-offer.ensures, ap (slice_index prices) at, ap (λ (o : Offer). o.price) same);
     })

@@ -1,6 +1,6 @@
 use Rattle.std.proofs.Common.{ℕ, ◌<◌, slice_index_or}
 use Rattle.roster_offers.specs.declared.offer.Offer.{Offer}
-use Rattle.roster_row.specs.Known.{IsDearer}
+use Rattle.roster_row.specs.Recalled.{IsDearer}
 use Rattle.roster_row.proofs.last.change_since.Given as goal
 
 abbrev pub invariant-loop-offer : goal.invariant-loop-offer

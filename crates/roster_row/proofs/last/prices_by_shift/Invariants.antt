@@ -1,6 +1,6 @@
 use Rattle.std.proofs.Common.{◌≡◌, ◌+◌, length}
 use Rattle.roster_instance.specs.Limits.{most_shifts}
-use Rattle.roster_row.specs.Known.{ArePrices}
+use Rattle.roster_row.specs.Recalled.{ArePrices}
 use Rattle.roster_row.proofs.last.prices_by_shift.Given as goal
 
 abbrev pub invariant-loop-offer : goal.invariant-loop-offer

@@ -20,6 +20,6 @@ returns g c =
     let same : choice ≡ now = ap (λ (row : List Choice). choice_on row d) c.row.ensures.row in
     record {
       offer = c.push.ensures.items
-          ∙ ap (λ (xs : List Offer). xs ++ (record { choice = choice; price = staffing_weight * c.lacking_by-lack.result.optimum + c.request_cost-asked.result }) ∷ []) c.new-offers.ensures
-          ∙ ap (λ (o : Offer). o ∷ []) (present_is k rows n d choice now c.lacking_by-lack.result.optimum c.request_cost-asked.result same c.lacking_by-lack.ensures.optimum asked_is);
+          ∙ ap (λ (xs : List Offer). xs ++ (record { choice = choice; price = staffing_weight * c.shortfall_by-lack.result.optimum + c.request_cost-asked.result }) ∷ []) c.new-offers.ensures
+          ∙ ap (λ (o : Offer). o ∷ []) (present_is k rows n d choice now c.shortfall_by-lack.result.optimum c.request_cost-asked.result same c.shortfall_by-lack.ensures.optimum asked_is);
     }

@@ -1,7 +1,7 @@
 use Rattle.std.proofs.Common.{◌≡◌, ◌∙◌, ◌+◌, ◌<◌, [], ap, arith, subst, sym}
 use Rattle.roster_instance.specs.Meaning.{Meaning}
 use Rattle.roster_rules.specs.Prefix.{due}
-use Rattle.roster_rules.specs.Room.{penalty_room}
+use Rattle.roster_rules.specs.PenaltyBounds.{penalty_limit}
 use Rattle.roster_offers.specs.Lists.{AreOffers, IsFound, best_over, offers_on}
 use Rattle.std.proofs.Common.{IsSome}
 use Rattle.roster_row.proofs.BestLaws.{KeepsLimits, found_is, sum_within}
@@ -31,15 +31,15 @@ found g c = subst (λ (m : Meaning). IsFound (best_over m c.args.nurse (offers_o
 pub returns-clause-found : goal.returns-clause-found
 returns-clause-found g c = found g (goal.at.returns-clause-found g c).After-rest
 
-pub returns-clause-standing : goal.returns-clause-standing
-returns-clause-standing g c = subst (λ (m : Meaning). g.T.RowTables.IsCounted m c.args.nurse (offers_on c.args.workspace.now.offers) c.args.meter.now c.search_offers-cost.new.meter) c.case-2.ensures c.search_offers-cost.ensures.standing
+pub returns-clause-are_reachable : goal.returns-clause-are_reachable
+returns-clause-are_reachable g c = subst (λ (m : Meaning). g.T.SearchesRows.IsCounted m c.args.nurse (offers_on c.args.workspace.now.offers) c.args.meter.now c.search_offers-cost.new.meter) c.case-2.ensures c.search_offers-cost.ensures.are_reachable
 
 -- ---- the penalty
 
 owed_is : (g : _) (c : After-rest g) → c.start-owed.result.1 ≡ due c.args.held.now.case c.args.nurse []
 owed_is g c = c.start-owed.ensures.cost ∙ ap (λ (m : Meaning). due m c.args.nurse []) c.case-3.ensures
 
-sum_fits : (g : _) (c : After-rest g) → c.rest.result + c.start-owed.result.1 + c.search_offers-cost.result < penalty_room
+sum_fits : (g : _) (c : After-rest g) → c.rest.result + c.start-owed.result.1 + c.search_offers-cost.result < penalty_limit
 sum_fits g c =
     let kept = c.keeps_limits.ensures in
     let k = c.args.held.now.case in

@@ -22,9 +22,9 @@ returns-clause-total g c =
     ∙ sym (found_penalty c.args.held.now.case c.args.from c.args.held.now.roster c.keeps_rules.ensures.fits c.keeps_rules.ensures.keeps c.args.nurse c.requires.nurse c.offers_of_days.new.workspace.offers c.offers_of_days.ensures.offers
     c.best_of_offers.result.0 c.best_of_offers.new.workspace.row c.best_of_offers.ensures.found)
 
-pub returns-clause-standing : goal.returns-clause-standing
-returns-clause-standing g c =
-    g.met.T.RowTables.counted_same c.args.held.now.case c.args.nurse (offers_on c.offers_of_days.new.workspace.offers) (shift_offers c.args.held.now.case c.args.from c.args.held.now.roster c.args.nurse) c.offers_of_days.ensures.offers.each c.args.meter.now c.best_of_offers.new.meter c.best_of_offers.ensures.standing
+pub returns-clause-are_reachable : goal.returns-clause-are_reachable
+returns-clause-are_reachable g c =
+    g.met.T.SearchesRows.counted_same c.args.held.now.case c.args.nurse (offers_on c.offers_of_days.new.workspace.offers) (shift_offers c.args.held.now.case c.args.from c.args.held.now.roster c.args.nurse) c.offers_of_days.ensures.offers.each c.args.meter.now c.best_of_offers.new.meter c.best_of_offers.ensures.are_reachable
 
-pub returns-clause-same_room : goal.returns-clause-same_room
-returns-clause-same_room g c = same_after _ _ _ c.offers_of_days.ensures.same_room c.best_of_offers.ensures.same_room
+pub returns-clause-same_capacity : goal.returns-clause-same_capacity
+returns-clause-same_capacity g c = same_after _ _ _ c.offers_of_days.ensures.same_capacity c.best_of_offers.ensures.same_capacity

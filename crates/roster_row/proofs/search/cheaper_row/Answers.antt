@@ -2,7 +2,7 @@ use Rattle.std.proofs.Common.{◌≡◌, ◌∙◌, ◌<◌, ap, length, subst, 
 use Rattle.std.proofs.Math.Path.{transport}
 use Rattle.roster_instance.specs.Meaning.{Meaning, day_count, nurse_count}
 use Rattle.roster_offers.specs.Lists.{AreOffers, IsFound, best_over, offers_on}
-use Rattle.roster_row.specs.Known.{IsKnown}
+use Rattle.roster_row.specs.Recalled.{RecallsSearches}
 use Rattle.roster_row.specs.Searches.{AreShiftOffers}
 use Rattle.roster_row.proofs.BestLaws.{KeepsLimits, best_keeps, found_best, found_penalty}
 use Rattle.roster_row.proofs.OffersLaws.{can_search}
@@ -28,8 +28,8 @@ those g c = c.offers-2.ensures ∙ c.best_of_offers-cost.ensures.offers
 pub remember-requires-clause-nurse : goal.remember-requires-clause-nurse
 remember-requires-clause-nurse g c = subst (λ (m : Meaning). c.args.nurse < nurse_count m) (sym c.case-2.ensures) c.requires.nurse
 
-pub remember-requires-clause-known : goal.remember-requires-clause-known
-remember-requires-clause-known g c = subst (λ (m : Meaning). IsKnown m c.args.last.now) (sym c.case-2.ensures) c.requires.known
+pub remember-requires-clause-recalls : goal.remember-requires-clause-recalls
+remember-requires-clause-recalls g c = subst (λ (m : Meaning). RecallsSearches m c.args.last.now) (sym c.case-2.ensures) c.requires.recalls
 
 pub remember-requires-clause-days : goal.remember-requires-clause-days
 remember-requires-clause-days g c = ap length (those g (goal.at.remember-requires-clause-days g c).After-offers-2) ∙ c.offers_of_days.ensures.offers.days ∙ sym (ap day_count c.case-2.ensures)
@@ -63,5 +63,5 @@ returns-clause-total g c =
     ∙ sym (found_penalty c.args.held.now.case c.args.from c.args.held.now.roster c.keeps_rules.ensures.fits c.keeps_rules.ensures.keeps c.args.nurse c.requires.nurse c.offers_of_days.new.workspace.offers c.offers_of_days.ensures.offers
     c.best_of_offers-cost.result.0 c.best_of_offers-cost.new.workspace.row c.best_of_offers-cost.ensures.found)
 
-pub returns-clause-same_room : goal.returns-clause-same_room
-returns-clause-same_room g c = same_after _ _ _ c.offers_of_days.ensures.same_room c.best_of_offers-cost.ensures.same_room
+pub returns-clause-same_capacity : goal.returns-clause-same_capacity
+returns-clause-same_capacity g c = same_after _ _ _ c.offers_of_days.ensures.same_capacity c.best_of_offers-cost.ensures.same_capacity

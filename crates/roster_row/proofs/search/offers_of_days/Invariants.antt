@@ -1,12 +1,12 @@
 use Rattle.std.proofs.Common.{◌≡◌, ◌<◌, ℕ, length}
 use Rattle.roster_offers.specs.Offers.{shift_offers}
 use Rattle.roster_offers.specs.Lists.{offers_on}
-use Rattle.roster_offers.specs.Workspaces.{SameRoom}
+use Rattle.roster_offers.specs.Workspaces.{SameCapacity}
 use Rattle.roster_row.proofs.search.offers_of_days.Given as goal
 
 abbrev pub invariant-loop-day : goal.invariant-loop-day
 invariant-loop-day g l = record {
   days : length l.workspace.offers ≡ l.day;
   each : (day : ℕ) → day < l.day → offers_on l.workspace.offers day ≡ shift_offers l.held.case l.from l.held.roster l.nurse day;
-  same_room : SameRoom l.fn.workspace l.workspace;
+  same_capacity : SameCapacity l.fn.workspace l.workspace;
 }

@@ -6,7 +6,7 @@ use Rattle.roster_instance.specs.Days.{is_shift}
 use Rattle.roster_instance.specs.Meaning.{has_wish, has_wish_for_any, shift_count}
 use Rattle.roster_rules.proofs.wishes.meets_wishes.Goals as goal
 
--- where one fails, not all pass
+-- if one test fails, not all pass
 one_fails : (n i : ℕ) (p : ℕ → Bool) → i < n → p i ≡ false → all_below n p ≡ false
 one_fails zero i p below fails = absurd (omega (arith, below))
 one_fails (suc n) i p below fails = elim (cases_lt i n) [

@@ -4,7 +4,7 @@ use Rattle.roster_instance.specs.Meaning.{forbids}
 use Rattle.roster_rules.specs.Prefix.{Summary}
 use Rattle.roster_instance.specs.Sizes.{cap}
 use Rattle.roster_state.specs.declared.block.Block.TheInside.{Inside}
-use Rattle.roster_state.specs.Step.{next_of, step_of, with_assignments}
+use Rattle.roster_state.specs.Transition.{next_of, transition_of, with_assignments}
 use Rattle.roster_state.proofs.BlockLaw.{block_fits, dearer, places_step}
 use Rattle.roster_state.proofs.block.block_step.Goals as goal
 
@@ -17,10 +17,10 @@ from c = c.dearer_from.ensures ∙ ap (λ (r : ContractRules). if is_some c.args
 allowed : (c : goal.After-dearer_from) → forbids c.args.case.now.successions c.block.inside.state.last c.args.shift ≡ false
 allowed c = sym (c.forbids_next.ensures ∙ ap (λ (b : Inside). forbids c.args.case.now.successions b.state.last c.args.shift) c.block-inside.view_is) ∙ c.if-forbids_next.false
 
-pub returns-clause-steps : goal.returns-clause-steps
-returns-clause-steps c a inside =
+pub returns-clause-transitions : goal.returns-clause-transitions
+returns-clause-transitions c a inside =
     places_step c.args.case.now c.args.nurse c.args.day c.block.inside.state c.args.shift _ _ _ _ (next c) c.is_some.ensures c.cost_apart.ensures.cost (from c) (allowed c) a inside
-    ∙ ap (λ (s : Summary). step_of c.args.case.now c.args.nurse c.args.day (with_assignments s a) c.args.shift) c.block.view_is
+    ∙ ap (λ (s : Summary). transition_of c.args.case.now c.args.nurse c.args.day (with_assignments s a) c.args.shift) c.block.view_is
 
 pub returns-clause-next_fits : goal.returns-clause-next_fits
 returns-clause-next_fits c =

@@ -3,8 +3,8 @@ use Rattle.std.proofs.Common.{ℕ, ◌≡◌, ◌+◌, ◌≤◌, ◌<◌, ap, a
 use Rattle.roster_instance.specs.Counting.{one_if}
 use Rattle.roster_instance.specs.RunLaw.{day_violations}
 use Rattle.roster_instance.specs.Sizes.{cap}
-use Rattle.roster_state.specs.FloorLines.{IsUnderStay}
-use Rattle.roster_state.proofs.FloorLines.{cell_more, missed_from}
+use Rattle.roster_state.specs.CompletionLines.{IsUnderStay}
+use Rattle.roster_state.proofs.CompletionLines.{cell_more, missed_from}
 use Rattle.roster_state.proofs.line.set_cells.Goals as goal
 use Rattle.roster_state.proofs.line.set_cells.Goals.{then-count-cap, else-count-cap}
 
@@ -28,18 +28,18 @@ full-preserved c =
     let place = c.full.place in
     let leave = c.args.costs.leave in
     let after = c.args.after.now in
-    let floor = c.if-count-cap.floor in
-    let leaves : floor ≤ leave = elim c.if-count-cap.branch [
-      | then-count-cap w ↦ omega (arith, w.floor-is)
-      | else-count-cap w ↦ omega (arith, w.floor-is, w.min-floor.ensures)
+    let completion_bound = c.if-count-cap.completion_bound in
+    let leaves : completion_bound ≤ leave = elim c.if-count-cap.branch [
+      | then-count-cap w ↦ omega (arith, w.completion_bound-is)
+      | else-count-cap w ↦ omega (arith, w.completion_bound-is, w.min-completion_bound.ensures)
     ] in
-    let stays : IsUnderStay c.args.costs after place floor = elim c.if-count-cap.branch [
-      | then-count-cap w ↦ omega (arith, w.floor-is)
+    let stays : IsUnderStay c.args.costs after place completion_bound = elim c.if-count-cap.branch [
+      | then-count-cap w ↦ omega (arith, w.completion_bound-is)
       | else-count-cap w ↦
           let from : cap run ≤ place = omega (arith, c.full.auto.place, c.min-open.ensures, w.if-count-cap, c.cap-cap.ensures) in
           let to : c.cap-cap.result ≡ min (place + 1) (cap run) = omega (arith, c.cap-cap.ensures, from) in
           let cell = ap (λ k. slice_index_or after k 0) to in
           let extra : day_violations run place true ≡ 1 = ap one_if (lt-ltb run.greatest (place + 1) (omega (arith, from))) in
-          omega (arith, w.floor-is, w.min-floor.ensures, extra, cell)
+          omega (arith, w.completion_bound-is, w.min-completion_bound.ensures, extra, cell)
     ] in
-    cell_more c.args.costs after place c.full.here floor (omega arith) c.full.invariant (omega (arith, leaves)) stays (omega (arith, leaves, c.requires.leave))
+    cell_more c.args.costs after place c.full.here completion_bound (omega arith) c.full.invariant (omega (arith, leaves)) stays (omega (arith, leaves, c.requires.leave))

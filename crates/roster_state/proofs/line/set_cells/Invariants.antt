@@ -1,4 +1,4 @@
-use Rattle.roster_state.proofs.FloorLines.{AreCells}
+use Rattle.roster_state.proofs.CompletionLines.{AreCells}
 use Rattle.roster_state.proofs.line.set_cells.Given as goal
 
 abbrev pub invariant-open : goal.invariant-open

@@ -1,4 +1,4 @@
--- The pieces so far are sent.
+-- The pieces before this one are sent.
 use Rattle.std.proofs.Common.{take}
 use Rattle.roster_text.specs.Io.{Sends}
 use Rattle.roster_text.specs.Pieces.{pieces_text}

@@ -6,7 +6,7 @@ use Rattle.std.proofs.lemmas.Grind.{common_steps}
 use Rattle.roster_bundle.specs.Limits.{most_bytes}
 use Rattle.roster_text.proofs.reading.read_all.Goals as goal
 
--- a reader that gave more than the limit had more
+-- a reader that gave more than the limit has more bytes than the limit
 more_than_limit : (a b : Option (List ℕ)) (bs : List ℕ) → Consumes a b bs → most_bytes < length bs → IfSome a (λ given. most_bytes < length given)
 more_than_limit None b bs p h = tt
 more_than_limit (Some x) None bs p h = absurd p

@@ -1,4 +1,4 @@
--- What is kept is what the reader gave, and there is room for the rest of the limit.
+-- What is kept is what the reader gave, and the vector has capacity for the rest of the limit.
 use Rattle.std.proofs.Common.{◌≡◌, ◌≤◌, ◌+◌, ◌-◌, length, vec_len}
 use Rattle.std.specs.Io.KnownBytes.{Consumes}
 use Rattle.roster_bundle.specs.Limits.{most_bytes}

@@ -17,7 +17,7 @@ loop-vector-preserved c =
     let more : c.starts_at-count.result ≡ starts_in c.args.text.now at 64 = c.starts_at-count.ensures in
     omega (arith, c.loop-vector.invariant, more, starts_upto c.args.text.now at 64, ap (starts_in c.args.text.now 0) next)
 
--- all places, up to the last vector and after it
+-- all positions: the first, the whole vectors after it, and the rest
 pub overflow_add-result : goal.overflow_add-result
 overflow_add-result c =
     let text = c.args.text.now in

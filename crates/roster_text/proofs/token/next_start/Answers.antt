@@ -10,11 +10,11 @@ loop-at-preserved c =
       | then-text-at-eq10 w ↦ record {
         in_text = omega arith;
         on_line = grind (arith, line_rules);
-        same_place = grind (arith, common_steps);
+        same_position = grind (arith, common_steps);
       }
       | else-text-at-eq10 w ↦ record {
         in_text = omega arith;
         on_line = grind (arith, line_rules);
-        same_place = grind (arith, common_steps);
+        same_position = grind (arith, common_steps);
       }
     ]

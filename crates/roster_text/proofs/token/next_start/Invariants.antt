@@ -7,7 +7,7 @@ abbrev pub invariant-loop-at : goal.invariant-loop-at
 invariant-loop-at l = record {
   in_text : l.at ≤ length l.text;
   on_line : l.line ≡ line_at l.text l.at;
-  same_place : l.at + prefix_len is_separator (drop l.at l.text) ≡ l.fn.at + prefix_len is_separator (drop l.fn.at l.text);
+  same_position : l.at + prefix_len is_separator (drop l.at l.text) ≡ l.fn.at + prefix_len is_separator (drop l.fn.at l.text);
 }
 
 abbrev pub decreases-loop-at : goal.decreases-loop-at

@@ -6,7 +6,7 @@ use Rattle.roster_text.proofs.token.word_end.Given as goal
 abbrev pub invariant-loop-at : goal.invariant-loop-at
 invariant-loop-at l = record {
   in_text : l.at ≤ length l.text;
-  same_place : l.at + prefix_len is_word_byte (drop l.at l.text) ≡ l.fn.at + prefix_len is_word_byte (drop l.fn.at l.text);
+  same_position : l.at + prefix_len is_word_byte (drop l.at l.text) ≡ l.fn.at + prefix_len is_word_byte (drop l.fn.at l.text);
 }
 
 abbrev pub decreases-loop-at : goal.decreases-loop-at

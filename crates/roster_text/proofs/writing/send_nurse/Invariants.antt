@@ -1,4 +1,4 @@
--- The lines of the weekdays so far are sent.
+-- The lines of the weekdays before this one are sent.
 use Rattle.std.specs.List.{flat_map, range_with_len}
 use Rattle.roster_text.specs.Io.{Sends}
 use Rattle.roster_bundle.specs.Canonical.{line_on}

@@ -1,4 +1,4 @@
--- The heading and the lines of the nurses so far are sent.
+-- The heading and the lines of the nurses before this one are sent.
 use Rattle.std.proofs.Common.{◌++◌}
 use Rattle.std.specs.List.{flat_map, range_with_len}
 use Rattle.roster_text.specs.Io.{Sends}

@@ -9,4 +9,4 @@ pub returns : goal.returns
 returns c =
     let k = c.args.case.now in
     fill_by_all (λ d. if is_absent k c.args.nurse d then Off else choice_on c.args.given.now d) c.loop-day.row (day_count k) Off c.loop-day.invariant.long
-    (λ d h. c.loop-day.invariant.told d (omega (arith, h, c.loop-day-test.false, c.days-day-end.ensures.count)))
+    (λ d h. c.loop-day.invariant.gathered d (omega (arith, h, c.loop-day-test.false, c.days-day-end.ensures.count)))

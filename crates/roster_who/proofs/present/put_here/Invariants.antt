@@ -7,5 +7,5 @@ use Rattle.roster_who.proofs.present.put_here.Given as goal
 abbrev pub invariant-loop-day : goal.invariant-loop-day
 invariant-loop-day l = record {
   long : length l.row ≡ day_count l.case;
-  told : (d : ℕ) → d < l.day → get_or l.row d Off ≡ (if is_absent l.case l.nurse d then Off else choice_on l.given d);
+  gathered : (d : ℕ) → d < l.day → get_or l.row d Off ≡ (if is_absent l.case l.nurse d then Off else choice_on l.given d);
 }

@@ -12,7 +12,7 @@ returns-clause-present c =
     let k = c.args.case.now in
     let r = c.args.roster.now in
     fill_by_all (λ n. map (here_choice k r n) (range_with_len 0 (day_count k))) c.loop-nurse.present (nurse_count k) [] c.loop-nurse.invariant.nurses
-    (λ n h. c.loop-nurse.invariant.told n (omega (arith, h, c.loop-nurse-test.false, c.nurses-nurse-end.ensures.count)))
+    (λ n h. c.loop-nurse.invariant.gathered n (omega (arith, h, c.loop-nurse-test.false, c.nurses-nurse-end.ensures.count)))
 
 pub returns-clause-fits : goal.returns-clause-fits
 returns-clause-fits c = subst (λ (rows : Rows). fits_case c.args.case.now rows ≡ true) (sym (returns-clause-present c)) (here_fits c.args.case.now c.args.roster.now c.requires.fits)

@@ -9,6 +9,6 @@ abbrev pub invariant-loop-nurse : goal.invariant-loop-nurse
 invariant-loop-nurse l = record {
   nurses : length l.present ≡ nurse_count l.case;
   days : (n : ℕ) → n < nurse_count l.case → length (row_of l.present n) ≡ day_count l.case;
-  told : (n : ℕ) → n < l.nurse → row_of l.present n ≡ map (here_choice l.case l.roster n) (range_with_len 0 (day_count l.case));
+  gathered : (n : ℕ) → n < l.nurse → row_of l.present n ≡ map (here_choice l.case l.roster n) (range_with_len 0 (day_count l.case));
   row : length l.row.items ≡ day_count l.case;
 }

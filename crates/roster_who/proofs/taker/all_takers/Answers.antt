@@ -4,7 +4,7 @@ use Rattle.roster_laws.specs.Greatest.{greatest_extension_count}
 use Rattle.std.proofs.lemmas.Nat.{mul-le}
 use Rattle.roster_who.specs.Who.{taker}
 use Rattle.roster_who.proofs.TakerLemmas.{one_more}
-use Rattle.roster_worths.proofs.Counted.{counted_more, has_room}
+use Rattle.roster_prices.proofs.Counted.{counted_more, search_fits_meter}
 use Rattle.roster_who.proofs.taker.all_takers.Goals as goal
 
 pub taker_of-taker-requires-clause-room : goal.taker_of-taker-requires-clause-room
@@ -12,7 +12,7 @@ taker_of-taker-requires-clause-room g c =
     let k = c.args.asking.now.case.now in
     let n = c.loop-nurse.nurse in
     let inside : n < nurse_count k = omega (arith, c.loop-nurse-test.true, c.nurses-nurse-end.ensures.count) in
-    has_room k n c.args.meter.now c.loop-nurse.meter c.loop-nurse.invariant.counted inside 18446744073709551615 c.requires.room
+    search_fits_meter k n c.args.meter.now c.loop-nurse.meter c.loop-nurse.invariant.counted inside 18446744073709551615 c.requires.room
 
 pub loop-nurse-preserved : goal.loop-nurse-preserved
 loop-nurse-preserved g c =
@@ -21,7 +21,7 @@ loop-nurse-preserved g c =
     let i = c.loop-nurse.invariant in
     let inside : n < nurse_count k = omega (arith, c.loop-nurse-test.true, c.nurses-nurse-end.ensures.count) in
     record {
-      so_far = one_more (taker k c.args.asking.now.from c.args.asking.now.roster.now c.args.asking.now.asked) c.loop-nurse.told.items c.push_some.new.told.items n c.taker_of-taker.result i.so_far c.taker_of-taker.ensures.taker c.in_ok-push_some.ensures;
+      so_far = one_more (taker k c.args.asking.now.from c.args.asking.now.roster.now c.args.asking.now.asked) c.loop-nurse.gathered.items c.push_some.new.gathered.items n c.taker_of-taker.result i.so_far c.taker_of-taker.ensures.taker c.in_ok-push_some.ensures;
       fits = c.taker_of-taker.ensures.fits;
       trial = c.taker_of-taker.ensures.trial ∙ i.trial;
       counted = counted_more k n c.args.meter.now c.loop-nurse.meter i.counted inside c.taker_of-taker.new.meter c.taker_of-taker.ensures.counted;

@@ -8,7 +8,7 @@ use Rattle.roster_who.proofs.taker.all_takers.Given as goal
 
 abbrev pub invariant-loop-nurse : goal.invariant-loop-nurse
 invariant-loop-nurse g l = record {
-  so_far : l.told.items ≡ flat_map (λ n. option_to_list (taker l.asking.case.now l.asking.from l.asking.roster.now l.asking.asked n)) (range_with_len 0 l.nurse);
+  so_far : l.gathered.items ≡ flat_map (λ n. option_to_list (taker l.asking.case.now l.asking.from l.asking.roster.now l.asking.asked n)) (range_with_len 0 l.nurse);
   fits : fits_space l.asking.case.now l.workspace ≡ true;
   trial : l.trial ≡ l.asking.roster.now;
   counted : l.meter ≤ l.fn.meter + l.nurse * greatest_extension_count l.asking.case.now;

@@ -7,9 +7,9 @@ use Rattle.roster_instance.specs.Meaning.{day_count, last_shift, past_of}
 use Rattle.roster_instance.specs.Rosters.{Row, is_row_of}
 use Rattle.roster_offers.specs.declared.offer.Offer.{Offer}
 use Rattle.roster_offers.specs.Lists.{offers_on}
-use Rattle.roster_who.specs.Ways.{last_place, leads_on}
+use Rattle.roster_who.specs.Ways.{last_index, leads_on}
 use Rattle.roster_who.specs.Who.{taker_by}
-use Rattle.roster_who.proofs.TakingLemmas.{can_search, none_told, places_fit, row_fits_case, row_told, some_found}
+use Rattle.roster_who.proofs.TakingLemmas.{can_search, none_listed, indices_fit, row_fits_case, row_listed, some_found}
 use Rattle.roster_who.proofs.taker.taker_of.Goals as goal
 use Rattle.roster_who.proofs.taker.taker_of.Goals.{After-leads_through}
 
@@ -23,15 +23,15 @@ pub leads_through-requires-clause-places : goal.leads_through-requires-clause-pl
 leads_through-requires-clause-places g c =
     let k = c.args.asking.now.case.now in
     let r = c.args.asking.now.roster.now in
-    λ d inside. subst (λ (os : List (ArrayVec Offer)). All (λ offer. last_place (shift_of offer.choice) < 1 + most_shifts) (offers_on os d)) (sym c.offers.ensures)
-    (places_fit k c.args.asking.now.from r c.args.asking.now.asked c.args.nurse (search rules) c.requires.nurse (search rules) c.offers_of_days.new.workspace.offers c.offers_of_days.ensures.offers c.keeps_limits.ensures.small.keep c.keeps_limits.ensures.shifts d inside)
+    λ d inside. subst (λ (os : List (ArrayVec Offer)). All (λ offer. last_index (shift_of offer.choice) < 1 + most_shifts) (offers_on os d)) (sym c.offers.ensures)
+    (indices_fit k c.args.asking.now.from r c.args.asking.now.asked c.args.nurse (search rules) c.requires.nurse (search rules) c.offers_of_days.new.workspace.offers c.offers_of_days.ensures.offers c.keeps_limits.ensures.small.keep c.keeps_limits.ensures.shifts d inside)
 
 pub returns-then-not-leads_through-clause-taker : goal.returns-then-not-leads_through-clause-taker
 returns-then-not-leads_through-clause-taker g c =
     let k = c.args.asking.now.case.now in
     let r = c.args.asking.now.roster.now in
     let at = (goal.at.returns-then-not-leads_through-clause-taker g c).After-leads_through in
-    sym (ap (option_map (taker_by k r c.args.nurse)) (none_told k c.args.asking.now.from r c.args.asking.now.asked c.args.nurse (search rules) c.requires.nurse (search rules) c.offers_of_days.new.workspace.offers c.offers_of_days.ensures.offers (sym (leads g at) ∙ c.if-not-leads_through.true)))
+    sym (ap (option_map (taker_by k r c.args.nurse)) (none_listed k c.args.asking.now.from r c.args.asking.now.asked c.args.nurse (search rules) c.requires.nurse (search rules) c.offers_of_days.new.workspace.offers c.offers_of_days.ensures.offers (sym (leads g at) ∙ c.if-not-leads_through.true)))
 
 pub search_offers-requires-clause-offers : goal.search_offers-requires-clause-offers
 search_offers-requires-clause-offers g c =
@@ -61,6 +61,6 @@ returns-clause-taker g c =
     let k = c.args.asking.now.case.now in
     let r = c.args.asking.now.roster.now in
     let at = (goal.at.returns-clause-taker g c).After-leads_through in
-    let told = row_told k c.args.asking.now.from r c.args.asking.now.asked c.args.nurse (search rules) c.requires.nurse (search rules) c.offers_of_days.new.workspace.offers c.offers_of_days.ensures.offers (sym (leads g at) ∙ c.if-not-leads_through.false) c.search_offers.result
+    let gathered = row_listed k c.args.asking.now.from r c.args.asking.now.asked c.args.nurse (search rules) c.requires.nurse (search rules) c.offers_of_days.new.workspace.offers c.offers_of_days.ensures.offers (sym (leads g at) ∙ c.if-not-leads_through.false) c.search_offers.result
     c.search_offers.new.self.row c.search_offers.ensures.best in
-    ap Some (c.taker_by.ensures.taker ∙ ap (taker_by k r c.args.nurse) c.row.ensures) ∙ sym (ap (option_map (taker_by k r c.args.nurse)) told)
+    ap Some (c.taker_by.ensures.taker ∙ ap (taker_by k r c.args.nurse) c.row.ensures) ∙ sym (ap (option_map (taker_by k r c.args.nurse)) gathered)

@@ -5,5 +5,5 @@ use Rattle.roster_who.proofs.ways.leads_through.Given as goal
 
 abbrev pub invariant-loop-after : goal.invariant-loop-after
 invariant-loop-after l = record {
-  told : AreWays l.case (offers_on l.offers) l.after (length l.offers - l.after) l.ways;
+  gathered : AreWays l.case (offers_on l.offers) l.after (length l.offers - l.after) l.ways;
 }

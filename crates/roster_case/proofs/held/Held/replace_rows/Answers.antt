@@ -18,7 +18,7 @@ use Rattle.roster_case.specs.Held.{AreCounts, HeldRoster}
 use Rattle.roster_case.proofs.held.Held.replace_rows.Goals as goal
 use Rattle.roster_case.proofs.held.Held.replace_rows.Goals.{then-ne, else-ne}
 
--- the test of two choices tells whether they are one
+-- comparing two choices decides whether they are equal
 decides : (a b : Choice) → Decides (eq-value.it a b) (a ≡ b)
 decides Off Off = (same_choice_is Off Off, λ e. refl)
 decides Off (Work s k) = (same_choice_is Off (Work s k), λ e. ap (same_choice Off) (sym e) ∙ refl)

@@ -7,10 +7,10 @@ use Rattle.roster_instance.proofs.week.DaySectionSectionNurseDay.add.Goals as go
 pub returns-clause-built : goal.returns-clause-built
 returns-clause-built c = λ earlier is.
     let s = c.args.self.now in
-    let place = 7 * c.in_ok-nurse.nurse + c.weekday.result in
+    let index = 7 * c.in_ok-nurse.nurse + c.weekday.result in
     take_at c.mark.new.marks _ s.marks.len
-    (ap length c.mark.ensures ∙ length-set c.deref_mut.result.now place true ∙ c.deref_mut.ensures.len)
+    (ap length c.mark.ensures ∙ length-set c.deref_mut.result.now index true ∙ c.deref_mut.ensures.len)
     ∙ c.mark.ensures
-    ∙ ap (λ (flags : List Bool). set flags place true) c.deref_mut.ensures.value
+    ∙ ap (λ (flags : List Bool). set flags index true) c.deref_mut.ensures.value
     ∙ sym (line-day s.source.now s.scenario.now.nurses earlier s.marks.items is
     c.args.line.now c.in_ok-nurse.nurse c.in_ok-nurse.ensures.number c.weekday.result c.weekday.ensures.number)

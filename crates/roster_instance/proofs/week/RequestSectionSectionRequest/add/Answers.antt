@@ -10,10 +10,10 @@ use Rattle.roster_instance.proofs.week.RequestSectionSectionRequest.add.Goals as
 pub returns-then-eq-clause-built : goal.returns-then-eq-clause-built
 returns-then-eq-clause-built c = λ earlier is.
     let s = c.args.self.now in
-    let place = 7 * c.in_ok-nurse.nurse + c.weekday.result in
-    let written : List DayRequests → List DayRequests = requests_with place with_any in
+    let index = 7 * c.in_ok-nurse.nurse + c.weekday.result in
+    let written : List DayRequests → List DayRequests = requests_with index with_any in
     take_at c.request_any.new.requests _ s.requests.len
-    (ap length c.request_any.ensures ∙ length-set c.deref_mut.result.now place (with_any (get_or c.deref_mut.result.now place no_requests)) ∙ c.deref_mut.ensures.len)
+    (ap length c.request_any.ensures ∙ length-set c.deref_mut.result.now index (with_any (get_or c.deref_mut.result.now index no_requests)) ∙ c.deref_mut.ensures.len)
     ∙ c.request_any.ensures
     ∙ ap written c.deref_mut.ensures.value
     ∙ sym (any-requested s.source.now s.scenario.now.nurses s.scenario.now.shifts earlier s.requests.items is
@@ -23,11 +23,11 @@ returns-then-eq-clause-built c = λ earlier is.
 pub returns-in_ok-shift-clause-built : goal.returns-in_ok-shift-clause-built
 returns-in_ok-shift-clause-built c = λ earlier is.
     let s = c.args.self.now in
-    let place = 7 * c.in_ok-nurse.nurse + c.weekday.result in
+    let index = 7 * c.in_ok-nurse.nurse + c.weekday.result in
     let shift = c.in_ok-shift.shift in
-    let written : List DayRequests → List DayRequests = requests_with place (with_shift shift) in
+    let written : List DayRequests → List DayRequests = requests_with index (with_shift shift) in
     take_at c.request_shift.new.requests _ s.requests.len
-    (ap length c.request_shift.ensures ∙ length-set c.deref_mut-else-eq.result.now place (with_shift shift (get_or c.deref_mut-else-eq.result.now place no_requests)) ∙ c.deref_mut-else-eq.ensures.len)
+    (ap length c.request_shift.ensures ∙ length-set c.deref_mut-else-eq.result.now index (with_shift shift (get_or c.deref_mut-else-eq.result.now index no_requests)) ∙ c.deref_mut-else-eq.ensures.len)
     ∙ c.request_shift.ensures
     ∙ ap written c.deref_mut-else-eq.ensures.value
     ∙ sym (shift-requested s.source.now s.scenario.now.nurses s.scenario.now.shifts earlier s.requests.items is

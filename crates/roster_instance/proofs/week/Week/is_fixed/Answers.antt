@@ -5,5 +5,5 @@ use Rattle.roster_instance.proofs.week.Week.is_fixed.Goals as goal
 pub returns-in-Some : goal.returns-in-Some
 returns-in-Some c =
     c.in-Some.ensures.lookup.4 (omega arith) false
-    ∙ ap (λ (all : List Bool). get_or all c.args.place false) c.deref.ensures.value
-    ∙ ap (λ (week : WeekFacts). get_or week.fixed c.args.place false) c.self.view_is
+    ∙ ap (λ (all : List Bool). get_or all c.args.index false) c.deref.ensures.value
+    ∙ ap (λ (week : WeekFacts). get_or week.fixed c.args.index false) c.self.view_is

@@ -7,8 +7,8 @@ use Rattle.roster_instance.specs.Meaning.{day_count}
 use Rattle.roster_instance.specs.Sizes.{state_count}
 use Rattle.roster_laws.specs.Greatest.{greatest_state_count}
 use Rattle.roster_offers.specs.Lists.{IsFound, best_over, offers_on}
-use Rattle.roster_offers.specs.Workspaces.{Space, TableRoom}
-use Rattle.roster_offers.proofs.WorkspaceLaws.{room_of, states_within}
+use Rattle.roster_offers.specs.Workspaces.{Space, TableCapacity}
+use Rattle.roster_offers.proofs.WorkspaceLaws.{capacity_of, states_within}
 use Rattle.roster_offers.proofs.workspace.Workspace.search_offers.Goals as goal
 use Rattle.roster_offers.proofs.workspace.Workspace.search_offers.Goals.{After-search-cost}
 
@@ -16,7 +16,7 @@ pub search-cost-requires-clause-tables : goal.search-cost-requires-clause-tables
 search-cost-requires-clause-tables g c =
     let k = c.args.case.now in
     let n = c.args.nurse in
-    let room = room_of k c.args.self.now c.requires.fits in
+    let room = capacity_of k c.args.self.now c.requires.fits in
     let few = states_within k n c.requires.nurse in
     record {
       labels = omega (arith, ap (λ (w : Space). w.labels) c.self.view_is, room.labels, few);
@@ -30,23 +30,23 @@ search-cost-requires-clause-tables g c =
           );
     }
 
-pub search-cost-requires-clause-row_room : goal.search-cost-requires-clause-row_room
-search-cost-requires-clause-row_room g c =
-    omega (arith, (room_of c.args.case.now c.args.self.now c.requires.fits).row, ap (λ (w : Space). w.room) c.self.view_is, ap length c.deref_mut.ensures.value)
+pub search-cost-requires-clause-row_capacity : goal.search-cost-requires-clause-row_capacity
+search-cost-requires-clause-row_capacity g c =
+    omega (arith, (capacity_of c.args.case.now c.args.self.now c.requires.fits).row, ap (λ (w : Space). w.choices) c.self.view_is, ap length c.deref_mut.ensures.value)
 
--- ---- the space after it: the choices are those that are written
+-- ---- the workspace after the search: the choices are those that were written
 
 choices_are : (g : _) (c : After-search-cost g) → (with_items c.self.inside.choices c.search-cost.new.row).items ≡ c.search-cost.new.row
 choices_are g c = with_items_is c.self.inside.choices c.search-cost.new.row (c.search-cost.ensures.length ∙ c.deref_mut.ensures.len)
 
-room_stays : (g : _) (c : After-search-cost g) → length (with_items c.self.inside.choices c.search-cost.new.row).items ≡ c.args.self.now.room
-room_stays g c = ap length (choices_are g c) ∙ c.search-cost.ensures.length ∙ ap length c.deref_mut.ensures.value ∙ ap (λ (w : Space). w.room) c.self.view_is
+capacity_stays : (g : _) (c : After-search-cost g) → length (with_items c.self.inside.choices c.search-cost.new.row).items ≡ c.args.self.now.choices
+capacity_stays g c = ap length (choices_are g c) ∙ c.search-cost.ensures.length ∙ ap length c.deref_mut.ensures.value ∙ ap (λ (w : Space). w.choices) c.self.view_is
 
-labels_stay : (g : _) (c : After-search-cost g) → (g.T.RowTables.room c.search-cost.new.self).labels ≡ c.args.self.now.labels
-labels_stay g c = ap (λ (t : TableRoom). t.labels) c.search-cost.ensures.tables ∙ ap (λ (w : Space). w.labels) c.self.view_is
+labels_stay : (g : _) (c : After-search-cost g) → (g.T.SearchesRows.capacity c.search-cost.new.self).labels ≡ c.args.self.now.labels
+labels_stay g c = ap (λ (t : TableCapacity). t.labels) c.search-cost.ensures.tables ∙ ap (λ (w : Space). w.labels) c.self.view_is
 
-pointers_stay : (g : _) (c : After-search-cost g) → (g.T.RowTables.room c.search-cost.new.self).pointers ≡ c.args.self.now.pointers
-pointers_stay g c = ap (λ (t : TableRoom). t.pointers) c.search-cost.ensures.tables ∙ ap (λ (w : Space). w.pointers) c.self.view_is
+pointers_stay : (g : _) (c : After-search-cost g) → (g.T.SearchesRows.capacity c.search-cost.new.self).pointers ≡ c.args.self.now.pointers
+pointers_stay g c = ap (λ (t : TableCapacity). t.pointers) c.search-cost.ensures.tables ∙ ap (λ (w : Space). w.pointers) c.self.view_is
 
 -- what it went over
 offers_are : (g : _) (c : After-search-cost g) → c.as_slice.result.now ≡ c.args.self.now.offers
@@ -54,7 +54,7 @@ offers_are g c = c.as_slice.ensures.value ∙ ap (λ (w : Space). w.offers) c.se
 
 pub invariant_of-self : goal.invariant_of-self
 invariant_of-self g c =
-    omega (arith, (room_of c.args.case.now c.args.self.now c.requires.fits).row, room_stays g (goal.at.invariant_of-self g c).After-search-cost, c.days.ensures.count)
+    omega (arith, (capacity_of c.args.case.now c.args.self.now c.requires.fits).row, capacity_stays g (goal.at.invariant_of-self g c).After-search-cost, c.days.ensures.count)
 
 pub returns-clause-best : goal.returns-clause-best
 returns-clause-best g c =
@@ -72,20 +72,20 @@ returns-clause-each_day g c = c.search-cost.ensures.each_day
 pub returns-clause-counted : goal.returns-clause-counted
 returns-clause-counted g c = c.search-cost.ensures.counted
 
-pub returns-clause-standing : goal.returns-clause-standing
-returns-clause-standing g c =
-    let offers = offers_are g (goal.at.returns-clause-standing g c).After-search-cost in
-    transport (λ i. g.T.RowTables.IsCounted c.args.case.now c.args.nurse (offers_on (offers i)) c.args.meter.now c.search-cost.new.meter) c.search-cost.ensures.standing
+pub returns-clause-are_reachable : goal.returns-clause-are_reachable
+returns-clause-are_reachable g c =
+    let offers = offers_are g (goal.at.returns-clause-are_reachable g c).After-search-cost in
+    transport (λ i. g.T.SearchesRows.IsCounted c.args.case.now c.args.nurse (offers_on (offers i)) c.args.meter.now c.search-cost.new.meter) c.search-cost.ensures.are_reachable
 
-pub returns-clause-same_room : goal.returns-clause-same_room
-returns-clause-same_room g c =
-    let searched = (goal.at.returns-clause-same_room g c).After-search-cost in
+pub returns-clause-same_capacity : goal.returns-clause-same_capacity
+returns-clause-same_capacity g c =
+    let searched = (goal.at.returns-clause-same_capacity g c).After-search-cost in
     record {
       labels = labels_stay g searched;
       pointers = pointers_stay g searched;
-      room = room_stays g searched;
-      label_capacity = ap (λ (t : TableRoom). t.label_capacity) searched.search-cost.ensures.tables ∙ ap (λ (w : Space). w.label_capacity) searched.self.view_is;
-      later_capacity = ap (λ (t : TableRoom). t.later_capacity) searched.search-cost.ensures.tables ∙ ap (λ (w : Space). w.later_capacity) searched.self.view_is;
+      choices = capacity_stays g searched;
+      label_capacity = ap (λ (t : TableCapacity). t.label_capacity) searched.search-cost.ensures.tables ∙ ap (λ (w : Space). w.label_capacity) searched.self.view_is;
+      later_capacity = ap (λ (t : TableCapacity). t.later_capacity) searched.search-cost.ensures.tables ∙ ap (λ (w : Space). w.later_capacity) searched.self.view_is;
       row_capacity = ap (λ (w : Space). w.row_capacity) searched.self.view_is;
     }
 
@@ -93,7 +93,7 @@ pub returns-clause-fits : goal.returns-clause-fits
 returns-clause-fits g c =
     let k = c.args.case.now in
     let searched = (goal.at.returns-clause-fits g c).After-search-cost in
-    (λ i. (labels_stay g searched i == 2 * greatest_state_count k) && (pointers_stay g searched i == greatest_state_count k * day_count k) && nat_le (day_count k) (room_stays g searched i)) ∙ c.requires.fits
+    (λ i. (labels_stay g searched i == 2 * greatest_state_count k) && (pointers_stay g searched i == greatest_state_count k * day_count k) && nat_le (day_count k) (capacity_stays g searched i)) ∙ c.requires.fits
 
 pub returns-clause-offers : goal.returns-clause-offers
 returns-clause-offers g c = ap (λ (w : Space). w.offers) c.self.view_is

@@ -9,7 +9,7 @@ put_rows-requires g c =
     ∙ same_days c.args.held.now.case c.args.held.now.roster c.args.self.now.kept c.roster.ensures.fits c.requires.kept
 
 pub put-requires : goal.put-requires
-put-requires g c = (c.args.held.now.case, c.requires.kept_known, c.requires.known)
+put-requires g c = (c.args.held.now.case, c.requires.kept_recalls, c.requires.recalls)
 
 pub returns : goal.returns
 returns g c =
@@ -17,12 +17,12 @@ returns g c =
     record {
       kept = kept;
       fits = record {
-        floor = c.requires.floor;
-        known = c.requires.known;
-        kept_known = c.put.ensures.known c.args.held.now.case c.requires.known;
+        bounds = c.requires.bounds;
+        recalls = c.requires.recalls;
+        kept_recalls = c.put.ensures.recalls c.args.held.now.case c.requires.recalls;
         dearer = c.requires.dearer;
         kept = subst (λ (rows : Rows). fits_case c.args.held.now.case rows ≡ true) (sym kept) c.roster.ensures.fits;
-        pays = c.requires.pays;
+        fade_prices = c.requires.fade_prices;
         faded = c.requires.faded;
         count = c.requires.count;
         order = c.requires.order;

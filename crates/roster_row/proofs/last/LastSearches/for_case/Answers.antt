@@ -1,12 +1,12 @@
 use Rattle.std.proofs.Common.{◌≡◌, ◌∙◌, ◌*◌, ◌<◌, None, Option, IfSome, ℕ, ap, arith, replicate, rules, slice_index_or, subst, sym}
 use Rattle.std.proofs.lemmas.List.{get_or-replicate}
 use Rattle.roster_instance.specs.Meaning.{day_count, nurse_count}
-use Rattle.roster_row.specs.Known.{WasSearched}
+use Rattle.roster_row.specs.Recalled.{WasSearched}
 use Rattle.roster_row.proofs.last.LastSearches.for_case.Goals as goal
 
 pub returns : goal.returns
 returns c = record {
-  known = record {
+  recalls = record {
     nurses = omega (arith, c.in_ok-vec-2.ensures.len, c.in_ok-vec-2.field-0.ok.0, c.nurses-nurses.ensures.count);
     days =
         let all : c.nurses-nurses.result * c.days-days.result ≡ nurse_count c.args.case.now * day_count c.args.case.now = λ i. c.nurses-nurses.ensures.count i * c.days-days.ensures.count i in

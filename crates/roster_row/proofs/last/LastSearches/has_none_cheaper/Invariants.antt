@@ -1,5 +1,5 @@
 use Rattle.roster_offers.specs.Lists.{offers_on}
-use Rattle.roster_row.proofs.KnownLaws.{SoFar}
+use Rattle.roster_row.proofs.RecallLaws.{SoFar}
 use Rattle.roster_row.proofs.last.LastSearches.has_none_cheaper.Given as goal
 
 abbrev pub invariant-loop-day : goal.invariant-loop-day

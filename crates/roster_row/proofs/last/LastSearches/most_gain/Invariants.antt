@@ -1,5 +1,5 @@
 use Rattle.std.proofs.Common.{◌≡◌, ◌^◌, ◌≤◌, fold, max, take}
-use Rattle.roster_row.specs.Known.{gain_over}
+use Rattle.roster_row.specs.Recalled.{gain_over}
 use Rattle.roster_row.proofs.last.LastSearches.most_gain.Given as goal
 
 abbrev pub invariant-loop-offer : goal.invariant-loop-offer

@@ -1,8 +1,8 @@
 use Rattle.std.proofs.Common.{◌≡◌, ◌+◌, ◌*◌, ◌<◌, ℕ, [], length, slice_index_or}
 use Rattle.roster_instance.specs.Meaning.{day_count}
 use Rattle.roster_offers.specs.Lists.{offers_on}
-use Rattle.roster_row.specs.Known.{ArePrices}
-use Rattle.roster_row.proofs.KnownLaws.{Outside}
+use Rattle.roster_row.specs.Recalled.{ArePrices}
+use Rattle.roster_row.proofs.RecallLaws.{Outside}
 use Rattle.roster_row.proofs.last.LastSearches.remember.Given as goal
 
 abbrev pub invariant-loop-day : goal.invariant-loop-day

@@ -3,21 +3,21 @@ use Rattle.roster_text.proofs.TokenLemmas.{IsNextStart, next_start_is, IsNextEnd
 use Rattle.roster_text.proofs.token.ScannerIterator.next.Goals as goal
 use Rattle.roster_text.proofs.token.ScannerIterator.next.Goals.{After-next_start-start, After-token_end-self}
 
--- where `next_start` came to
+-- the position that `next_start` found
 started : (c : After-next_start-start) → IsNextStart c.args.self.now.text.now c.args.self.now.at c.next_start-start.result.0
-started c = next_start_is _ _ _ c.args.self.now.in_text c.args.self.now.between_tokens c.next_start-start.ensures.place
+started c = next_start_is _ _ _ c.args.self.now.in_text c.args.self.now.between_tokens c.next_start-start.ensures.position
 
 pub token_end-self-requires : goal.token_end-self-requires
 token_end-self-requires c =
     let within = (started (goal.at.token_end-self-requires c).After-next_start-start).within in
     search rules
 
--- where `token_end` came to
+-- the position that `token_end` found
 ended : (c : After-token_end-self) → IsNextEnd c.args.self.now.text.now c.next_start-start.result.0 c.token_end-self.result
 ended c =
-    let place = next_start_is _ _ _ c.args.self.now.in_text c.args.self.now.between_tokens c.next_start-start.ensures.place in
+    let position = next_start_is _ _ _ c.args.self.now.in_text c.args.self.now.between_tokens c.next_start-start.ensures.position in
     let inside : c.next_start-start.result.0 < length c.args.self.now.text.now = search rules in
-    next_end_is _ _ _ inside place.between (place.stands inside) c.token_end-self.ensures
+    next_end_is _ _ _ inside position.between (position.stands inside) c.token_end-self.ensures
 
 pub returns-then-start-self-clause-steps : goal.returns-then-start-self-clause-steps
 returns-then-start-self-clause-steps c =

@@ -1,0 +1,293 @@
+-- A run that raises a lower bound: the lines so far are sent.
+use Rattle.std.proofs.Common.{All, ◌≡◌, ◌∙◌, ◌+◌, ◌<◌, ◌≤◌, ◌⊎◌, ℕ, zero, suc, Bool, true, false, List, [], ◌∷◌, ◌++◌, Option, ap, append_assoc, append-nil, arith, flat_map, if◌then◌else◌, inl, inr, length, refl, subst, sym, zero-add}
+use Rattle.std.proofs.lemmas.Bool.{cases_lt}
+use Rattle.std.proofs.lemmas.List.Concat.{flat_map-append}
+use Rattle.std.proofs.lemmas.List.Elements.{All-append, All-cons, All-nil, All-weaker}
+use Rattle.roster_text.specs.declared.fault.WriteFault.{WriteFault}
+use Rattle.roster_text.specs.Io.{BreaksIn, Sends, StopsAt, Watched, saturated, sent_of}
+use Rattle.roster_text.proofs.Texts.{Sends-append, StopsAt-after, StopsAt-append}
+use Rattle.roster_instance.specs.Meaning.{Meaning}
+use Rattle.roster_instance.specs.Rosters.{Rows, fits_case}
+use Rattle.roster_rules.specs.HardRules.{keeps_hard}
+use Rattle.roster_rules.specs.Penalties.{penalty}
+use Rattle.roster_laws.proofs.Frozen.{stays_self}
+use Rattle.roster_rules.specs.Weights.{staffing_weight}
+use Rattle.roster_rules.specs.Improver.{line, start_word}
+use Rattle.roster_log.specs.declared.fault.LogFault.{LogFault}
+use Rattle.roster_log.specs.declared.fault.LogFault.TheVariants.{LogFailed}
+use Rattle.roster_bound.specs.declared.effort.Effort.{Effort}
+use Rattle.roster_bound.specs.declared.effort.Reached.{Reached}
+use Rattle.roster_bound.specs.BoundLogs.{BoundLine, BoundLogStops, HasReached, IsBoundLog, IsRoundBound, RaisesBound, Rises, bound_line, bound_log_text, last_line, no_line, rounds_alone}
+use Rattle.roster_slots.specs.Slots.{AreDualPrices, SlotPrices, asks_for_nurses, most_dual_price}
+use Rattle.roster_prices.specs.LowerBounds.{IsLowerBound, bound_by, first_bound, first_dual_prices}
+use Rattle.roster_bound.proofs.Duality.{no_roster_below}
+
+-- ---- one more line
+
+last_is : (before : BoundLine) (xs : List BoundLine) (x : BoundLine) → last_line before (xs ++ x ∷ []) ≡ x
+last_is before [] x = refl
+last_is before (y ∷ xs) x = last_is y xs x
+
+rises_more : (before : BoundLine) (xs : List BoundLine) (x : BoundLine) → Rises before xs → (last_line before xs).round < x.round → (last_line before xs).bound < x.bound → Rises before (xs ++ x ∷ [])
+rises_more before [] x rises later more = (later, more, tt)
+rises_more before (y ∷ xs) x rises later more = (rises.0, rises.1, rises_more y xs x rises.2 later more)
+
+-- ---- the log of the rounds
+
+-- each line is the bound of its round
+pub record IsRoundsLog (c : Meaning) (from : ℕ) (given : Rows) (rounds : ℕ) (lines : List BoundLine) : Type 0 where
+  pub bounds : All (λ x. IsLowerBound c from given x.bound) lines
+  pub each : All (IsRoundBound c from given) lines
+  pub rises : Rises no_line lines
+  pub within : (last_line no_line lines).round ≤ rounds
+  pub first : 0 < rounds → first_bound c from given ≤ (last_line no_line lines).bound
+
+-- without a branching, or with some
+pub bound_log : (c : Meaning) (from : ℕ) (given : Rows) (effort : Effort) (lines : List BoundLine) → IsRoundsLog c from given effort.rounds lines → IsBoundLog c from given effort lines
+bound_log c from given effort lines p =
+    let within : (last_line no_line lines).round ≤ effort.rounds = p.within in
+    record { bounds = p.bounds; each = All-weaker (IsRoundBound c from given) (λ x. x.round ≤ effort.rounds → IsRoundBound c from given x) (λ x is early. is) lines p.each; rises = p.rises; within = omega arith; first = p.first }
+
+-- ---- the first line
+
+pub first_text : (c : Meaning) (given : Rows) (total : ℕ) → total ≡ penalty c given → line (start_word c) total ≡ bound_log_text c given []
+first_text c given total e = ap (line (start_word c)) e ∙ sym (append-nil (line (start_word c) (penalty c given)))
+
+-- ---- the bound of a round, after this many others
+
+pub record IsBoundOfRound (c : Meaning) (from : ℕ) (given : Rows) (made bound : ℕ) : Type 0 where
+  pub dual_prices : SlotPrices
+  pub are_dual_prices : AreDualPrices dual_prices
+  pub bound_is : bound ≡ bound_by c from given dual_prices
+  pub first : made ≡ 0 → bound ≡ first_bound c from given
+
+module _ (c : Meaning) (from : ℕ) (given : Rows) where
+  pub bounds_below : (made bound : ℕ) → IsBoundOfRound c from given made bound → IsLowerBound c from given bound
+  bounds_below made bound t = subst (IsLowerBound c from given) (sym t.bound_is) (no_roster_below c from given t.dual_prices t.are_dual_prices)
+
+  -- the first round
+  even_within : (asks : Bool) → (if asks then staffing_weight else 0) ≤ most_dual_price
+  even_within true = omega arith
+  even_within false = omega arith
+
+  first_bounds : IsBoundOfRound c from given 0 (first_bound c from given)
+  first_bounds = record {
+    dual_prices = first_dual_prices c;
+    are_dual_prices = λ d s k. even_within (asks_for_nurses c d s k);
+    bound_is = refl;
+    first = λ e. refl;
+  }
+
+  -- ---- the log of no round, of later ones, and of one more
+
+  no_log : IsRoundsLog c from given 0 []
+  no_log = record { bounds = All-nil (λ x. IsLowerBound c from given x.bound); each = All-nil (IsRoundBound c from given); rises = tt; within = omega arith; first = λ some. absurd (omega (arith, some)) }
+
+  reached_log : (made next : ℕ) (lines : List BoundLine) → made ≤ next → (0 < next → first_bound c from given ≤ (last_line no_line lines).bound) → IsRoundsLog c from given made lines → IsRoundsLog c from given next lines
+  reached_log made next lines h some p =
+      let within : (last_line no_line lines).round ≤ made = p.within in
+      record { bounds = p.bounds; each = p.each; rises = p.rises; within = omega arith; first = some }
+
+  later_log : (made next : ℕ) (lines : List BoundLine) → made ≤ next → (0 < next → 0 < made) → IsRoundsLog c from given made lines → IsRoundsLog c from given next lines
+  later_log made next lines h some p = reached_log made next lines h (λ any. p.first (some any)) p
+
+  -- the first round's bound is a lower bound, too
+  first_within : fits_case c given ≡ true → keeps_hard c given ≡ true → first_bound c from given ≤ penalty c given
+  first_within fits keeps = bounds_below 0 (first_bound c from given) first_bounds given fits keeps (stays_self c from given)
+
+  -- a round that didn't raise the lower bound
+  same_log : (made best bound : ℕ) (lines : List BoundLine) → IsRoundsLog c from given made lines → best ≡ (last_line no_line lines).bound → bound ≤ best → IsBoundOfRound c from given made bound → IsRoundsLog c from given (made + 1) lines
+  same_log made best bound lines p best_is no_more t =
+      let within : (last_line no_line lines).round ≤ made = p.within in
+      record { bounds = p.bounds; each = p.each; rises = p.rises; within = omega arith; first = λ any. reached (cases_lt 0 made) }
+    where
+      reached : (0 < made) ⊎ (made ≤ 0) → first_bound c from given ≤ (last_line no_line lines).bound
+      reached (inl some) = p.first some
+      reached (inr none) = omega (arith, t.first (omega (arith, none)), no_more, best_is)
+
+  -- one that raised it
+  no_less : (made best bound : ℕ) → (0 < made → first_bound c from given ≤ best) → best < bound → IsBoundOfRound c from given made bound → first_bound c from given ≤ bound
+  no_less made best bound reached more t = go (cases_lt 0 made)
+    where
+      go : (0 < made) ⊎ (made ≤ 0) → first_bound c from given ≤ bound
+      go (inl some) = omega (arith, reached some, more)
+      go (inr none) = omega (arith, t.first (omega (arith, none)))
+
+  more_log : (made best bound : ℕ) (lines : List BoundLine) → IsRoundsLog c from given made lines → best ≡ (last_line no_line lines).bound → best < bound → IsBoundOfRound c from given made bound
+      → IsRoundsLog c from given (made + 1) (lines ++ record { round = made + 1; bound = bound } ∷ [])
+  more_log made best bound lines p best_is more t =
+      let x : BoundLine = record { round = made + 1; bound = bound } in
+      let within : (last_line no_line lines).round ≤ made = p.within in
+      let below : IsLowerBound c from given bound = bounds_below made bound t in
+      let above : first_bound c from given ≤ bound = no_less made best bound (λ some. omega (arith, p.first some, best_is)) more t in
+      let line : IsRoundBound c from given x = record { dual_prices = t.dual_prices; are_dual_prices = t.are_dual_prices; bound_is = t.bound_is; first = λ one. t.first (omega (arith, one)); no_less = above } in
+      record {
+        bounds = All-append (λ y. IsLowerBound c from given y.bound) lines (x ∷ []) p.bounds (All-cons (λ y. IsLowerBound c from given y.bound) x [] below (All-nil (λ y. IsLowerBound c from given y.bound)));
+        each = All-append (IsRoundBound c from given) lines (x ∷ []) p.each (All-cons (IsRoundBound c from given) x [] line (All-nil (IsRoundBound c from given)));
+        rises = rises_more no_line lines x p.rises (omega arith) (omega arith);
+        within = omega (arith, ap (λ (y : BoundLine). y.round) (last_is no_line lines x));
+        first = λ any. omega (arith, above, ap (λ (y : BoundLine). y.bound) (last_is no_line lines x));
+      }
+
+  -- there is some log
+  rounds_log : (rounds : ℕ) → (lines : List BoundLine) × IsRoundsLog c from given rounds lines
+  rounds_log zero = ([], no_log)
+  rounds_log (suc n) = go (cases_lt 0 (first_bound c from given))
+    where
+      go : (0 < first_bound c from given) ⊎ (first_bound c from given ≤ 0) → (lines : List BoundLine) × IsRoundsLog c from given (suc n) lines
+      go (inl some) =
+          let lines : List BoundLine = record { round = 0 + 1; bound = first_bound c from given } ∷ [] in
+          (lines, later_log (0 + 1) (suc n) lines (omega arith) (λ any. omega arith) (more_log 0 0 (first_bound c from given) [] no_log refl some first_bounds))
+      go (inr none) = ([], later_log (0 + 1) (suc n) [] (omega arith) (λ any. omega arith) (same_log 0 0 (first_bound c from given) [] no_log refl none first_bounds))
+
+  pub some_log : (effort : Effort) → (lines : List BoundLine) × IsBoundLog c from given effort lines
+  some_log effort = let some = rounds_log effort.rounds in (some.0, bound_log c from given effort some.0 some.1)
+
+-- ---- the rounds made so far
+
+pub record Going {W : Type 0} (contents : W → Option (List ℕ)) (c : Meaning) (from : ℕ) (given : Rows) (old mid : Watched W) (made sent best : ℕ) : Type 0 where
+  pub lines : List BoundLine
+  pub is_log : IsRoundsLog c from given made lines
+  pub sends : Sends contents old mid 0 sent (bound_log_text c given lines)
+  pub best_is : best ≡ (last_line no_line lines).bound
+
+module _ {W : Type 0} (contents : W → Option (List ℕ)) (c : Meaning) (from : ℕ) (given : Rows) (old : Watched W) where
+  first_line : List ℕ
+  first_line = line (start_word c) (penalty c given)
+
+  text_more : (xs : List BoundLine) (x : BoundLine) → bound_log_text c given xs ++ bound_line x ≡ bound_log_text c given (xs ++ x ∷ [])
+  unfolding first_line
+  text_more xs x =
+      append_assoc first_line (flat_map bound_line xs) (bound_line x)
+      ∙ ap (λ text. first_line ++ text) (ap (λ text. flat_map bound_line xs ++ text) (sym (append-nil (bound_line x))) ∙ sym (flat_map-append bound_line xs (x ∷ [])))
+
+  pub Going-start : (new : Watched W) (sent : ℕ) → Sends contents old new 0 sent (bound_log_text c given []) → Going contents c from given old new 0 sent 0
+  Going-start new sent p = record { lines = []; is_log = no_log c from given; sends = p; best_is = refl }
+
+  -- the first line broke off, whatever would have come after it
+  pub start_breaks : (rounds : ℕ) (new : Watched W) (fault : WriteFault) → BreaksIn contents old new 0 (bound_log_text c given []) fault → BoundLogStops contents c from given (rounds_alone rounds) old new (LogFailed (sent_of fault))
+  unfolding first_line
+  start_breaks rounds new fault p =
+      let some = some_log c from given (rounds_alone rounds) in
+      record {
+        lines = some.0;
+        is_log = some.1;
+        sent = p.sent;
+        stops = StopsAt-append contents old new (line (start_word c) (penalty c given)) (flat_map bound_line some.0) p.sent (subst (λ text. StopsAt contents old new text p.sent) (append-nil (line (start_word c) (penalty c given))) p.stops);
+        counted = ap (λ f. LogFailed (sent_of f)) p.counted ∙ ap (λ n. LogFailed (saturated n)) (zero-add p.sent);
+      }
+
+  -- a round that didn't raise the lower bound
+  pub Going-same : (mid : Watched W) (made sent best bound : ℕ) → Going contents c from given old mid made sent best → bound ≤ best → IsBoundOfRound c from given made bound → Going contents c from given old mid (made + 1) sent best
+  Going-same mid made sent best bound p no_more t = record {
+    lines = p.lines;
+    is_log = same_log c from given made best bound p.lines p.is_log p.best_is no_more t;
+    sends = p.sends;
+    best_is = p.best_is;
+  }
+
+  pub Going-raised : (mid new : Watched W) (made sent after best bound : ℕ) → Going contents c from given old mid made sent best → best < bound → IsBoundOfRound c from given made bound
+      → Sends contents mid new sent after (bound_line (record { round = made + 1; bound = bound })) → Going contents c from given old new (made + 1) after bound
+  Going-raised mid new made sent after best bound p more t q =
+      let x : BoundLine = record { round = made + 1; bound = bound } in
+      record {
+        lines = p.lines ++ x ∷ [];
+        is_log = more_log c from given made best bound p.lines p.is_log p.best_is more t;
+        sends = subst (Sends contents old new 0 after) (text_more p.lines x) (Sends-append contents old mid new 0 sent after (bound_log_text c given p.lines) (bound_line x) p.sends q);
+        best_is = sym (ap (λ (y : BoundLine). y.bound) (last_is no_line p.lines x));
+      }
+
+  -- its line broke off
+  pub raised_breaks : (rounds : ℕ) (mid new : Watched W) (made sent best bound : ℕ) (fault : WriteFault) → Going contents c from given old mid made sent best → made < rounds → best < bound → IsBoundOfRound c from given made bound
+      → BreaksIn contents mid new sent (bound_line (record { round = made + 1; bound = bound })) fault → BoundLogStops contents c from given (rounds_alone rounds) old new (LogFailed (sent_of fault))
+  raised_breaks rounds mid new made sent best bound fault p inside more t q =
+      let x : BoundLine = record { round = made + 1; bound = bound } in
+      let front : sent ≡ saturated (0 + length (bound_log_text c given p.lines)) = p.sends.counted in
+      let count : saturated (sent + q.sent) ≡ saturated (length (bound_log_text c given p.lines) + q.sent) = omega arith in
+      record {
+        lines = p.lines ++ x ∷ [];
+        is_log = bound_log c from given (rounds_alone rounds) (p.lines ++ x ∷ [])
+            (later_log c from given (made + 1) rounds (p.lines ++ x ∷ []) (omega arith) (λ any. omega arith) (more_log c from given made best bound p.lines p.is_log p.best_is more t));
+        sent = length (bound_log_text c given p.lines) + q.sent;
+        stops = subst (λ text. StopsAt contents old new text (length (bound_log_text c given p.lines) + q.sent)) (text_more p.lines x) (StopsAt-after contents old mid new (bound_log_text c given p.lines) (bound_line x) q.sent p.sends.writes q.stops);
+        counted = ap (λ f. LogFailed (sent_of f)) q.counted ∙ ap LogFailed count;
+      }
+
+  pub Going-end : (rounds : ℕ) (new : Watched W) (made sent best : ℕ) → Going contents c from given old new made sent best → made ≤ rounds → rounds ≤ made
+      → HasReached contents c from given (rounds_alone rounds) old new (record { bound = best; sent = sent })
+  Going-end rounds new made sent best p few all = record {
+    lines = p.lines;
+    is_log = bound_log c from given (rounds_alone rounds) p.lines (later_log c from given made rounds p.lines few (λ some. omega (arith, some, all)) p.is_log);
+    sends = p.sends;
+    bound_is = p.best_is;
+  }
+
+  -- the lower bound is what the given roster costs: then it is no less than any bound
+  pub Going-met : (rounds : ℕ) (new : Watched W) (made sent best : ℕ) → Going contents c from given old new made sent best → made ≤ rounds → penalty c given ≤ best → fits_case c given ≡ true → keeps_hard c given ≡ true
+      → HasReached contents c from given (rounds_alone rounds) old new (record { bound = best; sent = sent })
+  Going-met rounds new made sent best p few met fits keeps = record {
+    lines = p.lines;
+    is_log = bound_log c from given (rounds_alone rounds) p.lines (reached_log c from given made rounds p.lines few (λ some. omega (arith, met, p.best_is, first_within c from given fits keeps)) p.is_log);
+    sends = p.sends;
+    bound_is = p.best_is;
+  }
+
+  -- ---- the branchings made so far
+
+  -- it stays one if more branchings may be made
+  later_nodes : (effort : Effort) (more : ℕ) (lines : List BoundLine) → effort.nodes ≤ more → IsBoundLog c from given effort lines → IsBoundLog c from given (record effort { nodes = more }) lines
+  later_nodes effort more lines few p =
+      let within : (last_line no_line lines).round ≤ effort.rounds + effort.nodes = p.within in
+      record { bounds = p.bounds; each = p.each; rises = p.rises; within = omega arith; first = p.first }
+
+  pub reached-later : (effort : Effort) (more : ℕ) (mid : Watched W) (reached : Reached) → effort.nodes ≤ more → HasReached contents c from given effort old mid reached → HasReached contents c from given (record effort { nodes = more }) old mid reached
+  reached-later effort more mid reached few p = record { lines = p.lines; is_log = later_nodes effort more p.lines few p.is_log; sends = p.sends; bound_is = p.bound_is }
+
+  pub stops-later : (effort : Effort) (more : ℕ) (mid : Watched W) (fault : LogFault) → effort.nodes ≤ more → BoundLogStops contents c from given effort old mid fault → BoundLogStops contents c from given (record effort { nodes = more }) old mid fault
+  stops-later effort more mid fault few p = record { lines = p.lines; is_log = later_nodes effort more p.lines few p.is_log; sent = p.sent; stops = p.stops; counted = p.counted }
+
+  pub reached-end : (effort : Effort) (mid : Watched W) (reached : Reached) → HasReached contents c from given effort old mid reached → RaisesBound contents c from given effort old mid reached.bound
+  reached-end effort mid reached p = record { lines = p.lines; is_log = p.is_log; writes = p.sends.writes; bound_is = p.bound_is }
+
+  -- a branching that raised the lower bound
+  branched_log : (rounds branched best bound : ℕ) (lines : List BoundLine) → IsBoundLog c from given (record { rounds = rounds; nodes = branched }) lines → best ≡ (last_line no_line lines).bound → best < bound → IsLowerBound c from given bound
+      → IsBoundLog c from given (record { rounds = rounds; nodes = branched + 1 }) (lines ++ record { round = rounds + branched + 1; bound = bound } ∷ [])
+  branched_log rounds branched best bound lines p best_is more below =
+      let x : BoundLine = record { round = rounds + branched + 1; bound = bound } in
+      let within : (last_line no_line lines).round ≤ rounds + branched = p.within in
+      let Early : BoundLine → Type 0 = λ y. y.round ≤ rounds → IsRoundBound c from given y in
+      record {
+        bounds = All-append (λ y. IsLowerBound c from given y.bound) lines (x ∷ []) p.bounds (All-cons (λ y. IsLowerBound c from given y.bound) x [] below (All-nil (λ y. IsLowerBound c from given y.bound)));
+        each = All-append Early lines (x ∷ []) p.each (All-cons Early x [] (λ early. absurd (omega (arith, early))) (All-nil Early));
+        rises = rises_more no_line lines x p.rises (omega arith) (omega arith);
+        within = omega (arith, ap (λ (y : BoundLine). y.round) (last_is no_line lines x));
+        first = λ any. omega (arith, p.first any, ap (λ (y : BoundLine). y.bound) (last_is no_line lines x));
+      }
+
+  pub reached-raised : (rounds branched after bound : ℕ) (mid new : Watched W) (reached : Reached) → HasReached contents c from given (record { rounds = rounds; nodes = branched }) old mid reached → reached.bound < bound → IsLowerBound c from given bound
+      → Sends contents mid new reached.sent after (bound_line (record { round = rounds + branched + 1; bound = bound }))
+      → HasReached contents c from given (record { rounds = rounds; nodes = branched + 1 }) old new (record { bound = bound; sent = after })
+  reached-raised rounds branched after bound mid new reached p more below q =
+      let x : BoundLine = record { round = rounds + branched + 1; bound = bound } in
+      record {
+        lines = p.lines ++ x ∷ [];
+        is_log = branched_log rounds branched reached.bound bound p.lines p.is_log p.bound_is more below;
+        sends = subst (Sends contents old new 0 after) (text_more p.lines x) (Sends-append contents old mid new 0 reached.sent after (bound_log_text c given p.lines) (bound_line x) p.sends q);
+        bound_is = sym (ap (λ (y : BoundLine). y.bound) (last_is no_line p.lines x));
+      }
+
+  -- its line broke off
+  pub branched_breaks : (rounds branched bound : ℕ) (mid new : Watched W) (reached : Reached) (fault : WriteFault) → HasReached contents c from given (record { rounds = rounds; nodes = branched }) old mid reached → reached.bound < bound → IsLowerBound c from given bound
+      → BreaksIn contents mid new reached.sent (bound_line (record { round = rounds + branched + 1; bound = bound })) fault
+      → BoundLogStops contents c from given (record { rounds = rounds; nodes = branched + 1 }) old new (LogFailed (sent_of fault))
+  branched_breaks rounds branched bound mid new reached fault p more below q =
+      let x : BoundLine = record { round = rounds + branched + 1; bound = bound } in
+      let front : reached.sent ≡ saturated (0 + length (bound_log_text c given p.lines)) = p.sends.counted in
+      let count : saturated (reached.sent + q.sent) ≡ saturated (length (bound_log_text c given p.lines) + q.sent) = omega arith in
+      record {
+        lines = p.lines ++ x ∷ [];
+        is_log = branched_log rounds branched reached.bound bound p.lines p.is_log p.bound_is more below;
+        sent = length (bound_log_text c given p.lines) + q.sent;
+        stops = subst (λ text. StopsAt contents old new text (length (bound_log_text c given p.lines) + q.sent)) (text_more p.lines x) (StopsAt-after contents old mid new (bound_log_text c given p.lines) (bound_line x) q.sent p.sends.writes q.stops);
+        counted = ap (λ f. LogFailed (sent_of f)) q.counted ∙ ap LogFailed count;
+      }

@@ -1,0 +1,12 @@
+pub mod After
+pub mod BestLaw
+pub mod Cells
+pub mod CountLaws
+pub mod DayLaws
+pub mod CompletionLaw
+pub mod LeastLaw
+pub mod LineLaws
+pub mod MoreToCome
+pub mod Indices
+pub mod Blocks
+pub mod WayLaws

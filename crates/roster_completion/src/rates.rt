@@ -1,0 +1,9 @@
+//! The rates at which completion bounds charge for what is counted over all days.
+
+/// What a completion bound charges for each worked day and for each worked weekend to come, in penalty
+/// points.
+#[derive(Clone, Copy)]
+pub struct Rates {
+    pub day: u32,
+    pub weekend: u32,
+}

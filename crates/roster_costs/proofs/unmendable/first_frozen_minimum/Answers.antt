@@ -1,6 +1,0 @@
-use Rattle.std.proofs.Common.{arith}
-use Rattle.roster_rules.proofs.HardLemmas.{below_first}
-use Rattle.roster_costs.proofs.unmendable.first_frozen_minimum.Goals as goal
-
-pub returns-in-Some : goal.returns-in-Some
-returns-in-Some c = below_first _ _ c.loop-day.day c.in-Some.fault (omega arith) c.loop-day.invariant c.in-Some.ensures

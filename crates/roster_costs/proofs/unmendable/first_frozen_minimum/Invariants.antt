@@ -1,7 +1,0 @@
-use Rattle.std.proofs.Common.{◌≡◌, []}
-use Rattle.roster_instance.specs.Faults.{below}
-use Rattle.roster_costs.specs.Unmendable.{frozen_minimums_on}
-use Rattle.roster_costs.proofs.unmendable.first_frozen_minimum.Given as goal
-
-abbrev pub invariant-loop-day : goal.invariant-loop-day
-invariant-loop-day l = below l.day (frozen_minimums_on l.case l.from l.roster) ≡ []

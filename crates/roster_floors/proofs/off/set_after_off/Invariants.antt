@@ -1,6 +1,0 @@
-use Rattle.roster_floors.specs.Lines.{UnderCell}
-use Rattle.roster_floors.proofs.Rows.{AreRows}
-use Rattle.roster_floors.proofs.off.set_after_off.Given as goal
-
-abbrev pub invariant-loop-run : goal.invariant-loop-run
-invariant-loop-run l = AreRows l.day (λ run q x. UnderCell l.day 0 run q x) l.day.shift_runs l.run l.fn.here l.here l.fn.meter l.meter

@@ -1,0 +1,5 @@
+pub mod Counted
+pub mod OwnRows
+pub mod PricedRows
+pub mod RowBounds
+pub mod NodeRows

@@ -1,0 +1,5 @@
+pub mod LowerBounds
+pub mod Days
+pub mod Nodes
+pub mod Workspaces
+pub mod Fading

@@ -1,0 +1,144 @@
+//! The least that nurses cost by dual prices.
+
+ghost use Rattle.std.specs.Prelude.{◌≡◌, ◌+◌, ◌*◌, ◌≤◌, ◌<◌, Some, true};
+ghost use Rattle.roster_bundle.specs.Limits.{greatest_u64};
+ghost use Rattle.roster_instance.specs.Counting.{sum_below};
+ghost use Rattle.roster_instance.specs.Meaning.{day_count, nurse_count};
+ghost use Rattle.roster_laws.specs.Greatest.{extension_count, greatest_extension_count};
+ghost use Rattle.roster_offers.specs.Workspaces.{fits_space};
+ghost use Rattle.roster_slots.specs.ColumnPool.{FitsPool};
+ghost use Rattle.roster_slots.specs.Tables.{slot_prices};
+ghost use Rattle.roster_prices.specs.Days.{ArePricedOffers, AreDualPricedOffers, shift_offers};
+ghost use Rattle.roster_prices.specs.Nodes.{most_row_bound, price_in, row_bound_in};
+ghost use Rattle.roster_prices.specs.Workspaces.{CountsRound, FitsRows};
+ghost use Rattle.roster_prices.specs.LowerBounds.{least_row};
+
+use crate::decisions::Decision;
+use crate::offers::{DayTerms, Terms};
+use crate::workspace::RowSpace;
+use arrayvec::ArrayVec;
+use roster_offers::{MOST_OFFERS, NurseDay, Offer, SearchesRows, Workspace, offers_by_shift};
+use roster_rules::is_frozen;
+use roster_slots::{ColumnPool, count_row};
+use roster_state::{Meter, start};
+
+/// The least that the rows of all nurses cost together by dual prices, if a choice that goes against a
+/// branching decision of the node costs more. The cover counts the first of each nurse's cheapest rows, and
+/// the pool keeps these.
+pub fn row_bounds<T: SearchesRows>(
+    terms: &Terms<'_>,
+    node: &[Decision],
+    rows: &mut RowSpace<T>,
+    pool: &mut ColumnPool,
+    meter: &mut Meter,
+) -> u64
+    requires rows { FitsRows terms.now.case.now rows.old }
+    requires pool { FitsPool terms.now.case.now pool.old }
+    requires room { meter.old + nurse_count terms.now.case.now * greatest_extension_count
+        terms.now.case.now ≤ greatest_u64 }
+    ensures bounds { result ≡ sum_below (nurse_count terms.now.case.now) (row_bound_in
+        terms.now.case.now terms.now.from terms.now.given.now
+        (slot_prices terms.now.dual_prices.now) node.now) }
+    ensures within { result ≤ nurse_count terms.now.case.now * most_row_bound }
+    ensures rows { FitsRows terms.now.case.now rows.new }
+    ensures pool { FitsPool terms.now.case.now pool.new }
+    ensures counted { CountsRound terms.now.case.now meter.old meter.new }
+{
+    let case = terms.case;
+    case.keeps_limits();
+    rows.forget();
+    let mut bounds = 0;
+    for nurse in 0..case.nurses() {
+        let bound = row_bound_in(terms, node, nurse, rows, meter);
+        pool.keep(case, nurse, rows.workspace.row(), bound, terms.dual_prices);
+        bounds += bound;
+    }
+    bounds
+}
+
+/// The least that a row of the nurse costs by dual prices, if a choice that goes against a branching decision
+/// of the node costs more. The workspace then shows the first of the cheapest rows, and the cover counts it.
+fn row_bound_in<T: SearchesRows>(
+    terms: &Terms<'_>,
+    node: &[Decision],
+    nurse: usize,
+    rows: &mut RowSpace<T>,
+    meter: &mut Meter,
+) -> u64
+    requires nurse { nurse < nurse_count terms.now.case.now }
+    requires rows { FitsRows terms.now.case.now rows.old }
+    requires room { meter.old + extension_count terms.now.case.now nurse ≤ greatest_u64 }
+    ensures bound { result ≡ row_bound_in terms.now.case.now terms.now.from terms.now.given.now
+        (slot_prices terms.now.dual_prices.now) node.now nurse }
+    ensures within { result ≤ most_row_bound }
+    ensures row { least_row terms.now.case.now terms.now.from terms.now.given.now
+        (price_in terms.now.case.now (slot_prices terms.now.dual_prices.now) node.now nurse) nurse
+        ≡ Some rows.new.workspace.row }
+    ensures rows { FitsRows terms.now.case.now rows.new }
+    ensures each_day { meter.old + day_count terms.now.case.now ≤ meter.new }
+    ensures counted { meter.new ≤ meter.old + extension_count terms.now.case.now nurse }
+{
+    let case = terms.case;
+    case.keeps_limits();
+    offer_days_in(terms, node, nurse, &mut rows.workspace);
+    let cost = rows.workspace.search_offers(case, nurse, meter);
+    count_row(rows.workspace.row(), &mut rows.cover);
+    let (_, owed) = start(case, nurse);
+    owed as u64 + cost as u64
+}
+
+/// Replaces the offers in a workspace by a nurse's offers of each day: to be off, and for each shift the
+/// cheapest, the first if several are equally cheap.
+pub fn offer_days<T: SearchesRows>(terms: &Terms<'_>, nurse: usize, workspace: &mut Workspace<T>)
+    requires nurse { nurse < nurse_count terms.now.case.now }
+    requires fits { fits_space terms.now.case.now workspace.old ≡ true }
+    ensures offers { AreDualPricedOffers terms.now.case.now terms.now.from terms.now.given.now
+        (slot_prices terms.now.dual_prices.now) nurse workspace.new.offers }
+    ensures fits { fits_space terms.now.case.now workspace.new ≡ true }
+{
+    offer_days_in(terms, &[], nurse, workspace)
+}
+
+/// The same in a node.
+fn offer_days_in<T: SearchesRows>(
+    terms: &Terms<'_>,
+    node: &[Decision],
+    nurse: usize,
+    workspace: &mut Workspace<T>,
+)
+    requires nurse { nurse < nurse_count terms.now.case.now }
+    requires fits { fits_space terms.now.case.now workspace.old ≡ true }
+    ensures offers { ArePricedOffers terms.now.case.now terms.now.from terms.now.given.now
+        (price_in terms.now.case.now (slot_prices terms.now.dual_prices.now) node.now nurse) nurse
+        workspace.new.offers }
+    ensures fits { fits_space terms.now.case.now workspace.new ≡ true }
+{
+    terms.case.keeps_limits();
+    workspace.clear_offers();
+    for day in 0..terms.case.days() {
+        workspace.push_offers(offers_of_day(terms, node, nurse, day));
+    }
+}
+
+/// The offers of one day in a node.
+fn offers_of_day(
+    terms: &Terms<'_>,
+    node: &[Decision],
+    nurse: usize,
+    day: u16,
+) -> ArrayVec<Offer, MOST_OFFERS>
+    requires nurse { nurse < nurse_count terms.now.case.now }
+    requires day { day < day_count terms.now.case.now }
+    ensures offers { result.items ≡ shift_offers terms.now.case.now terms.now.from
+        terms.now.given.now (price_in terms.now.case.now (slot_prices terms.now.dual_prices.now)
+        node.now nurse) nurse day }
+{
+    let case = terms.case;
+    let frozen = is_frozen(case, terms.from, nurse, day);
+    let by = DayTerms {
+        terms,
+        node,
+        frozen,
+    };
+    offers_by_shift(&NurseDay { case, nurse, day }, &by)
+}

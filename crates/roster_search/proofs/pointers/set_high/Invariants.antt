@@ -1,9 +1,0 @@
-use Rattle.std.proofs.Common.{◌≡◌, ◌<◌, ℕ, get_or}
-use Rattle.roster_search.specs.Halves.{high, low}
-use Rattle.roster_search.proofs.pointers.set_high.Given as goal
-
-abbrev pub invariant-loop-i : goal.invariant-loop-i
-invariant-loop-i l = record {
-  set : (k : ℕ) → k < l.i → high (get_or l.bytes k 0) ≡ get_or l.run k 0;
-  left : (k : ℕ) → low (get_or l.bytes k 0) ≡ low (get_or l.fn.bytes k 0);
-}

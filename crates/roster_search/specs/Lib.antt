@@ -1,7 +1,0 @@
-pub mod Tables
-pub mod Counts
-pub mod Halves
-pub mod Search
-pub mod Days
-pub mod OpenDays
-pub mod Rows

@@ -1,0 +1,14 @@
+pub mod LabelLaws
+pub mod CellLaws
+pub mod BlockLaws
+pub mod ReadLaws
+pub mod PartLaws
+pub mod StripLaws
+pub mod HalfLaws
+pub mod ReachableLaws
+pub mod GroupLaws
+pub mod DayLaws
+pub mod SpanLaws
+pub mod CountLaws
+pub mod SearchLaws
+pub mod MostLaws

@@ -1,0 +1,6 @@
+use Rattle.std.proofs.Common.{arith, refl}
+use Rattle.roster_tables.proofs.DayLaws.{box_is}
+use Rattle.roster_tables.proofs.labels.box_of.Goals as goal
+
+pub returns : goal.returns
+returns c = box_is c.args.boxes.now c.args.boxes.now c.args.last _ refl (omega (arith, c.requires, c.told-boxes))

@@ -1,0 +1,14 @@
+use Rattle.std.proofs.Common.{◌≡◌, ◌+◌, ◌*◌, ◌<◌, ℕ, min, slice_index_or}
+use Rattle.roster_lanes.specs.Lanes.{raised}
+use Rattle.roster_offers.specs.Lists.{no_row}
+use Rattle.roster_tables.specs.OpenDays.{KeepLengths}
+use Rattle.roster_tables.specs.Strips.{BetweenStripsKept}
+use Rattle.roster_tables.proofs.strips.set_apart.Given as goal
+
+abbrev pub invariant-strips : goal.invariant-strips
+invariant-strips l = record {
+  labels : (i b : ℕ) → i < l.strip → b < l.shape.width → slice_index_or l.labels (i * l.shape.stride + b) 0 ≡ min (raised l.others l.more (i * l.shape.stride + b)) no_row;
+  numbers : (i b : ℕ) → i < l.strip → b < l.shape.width → slice_index_or l.numbers (i * l.shape.stride + b) 0 ≡ l.number;
+  between : BetweenStripsKept l.shape l.fn.labels l.labels;
+  lengths : KeepLengths l.fn.labels l.labels l.fn.numbers l.numbers;
+}

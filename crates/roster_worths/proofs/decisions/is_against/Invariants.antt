@@ -1,9 +1,0 @@
-use Rattle.std.proofs.Common.{◌≡◌, false, take}
-use Rattle.roster_worths.specs.Parts.{is_against}
-use Rattle.roster_worths.proofs.decisions.is_against.Given as goal
-
--- none of the decisions before
-abbrev pub invariant-loop-decision : goal.invariant-loop-decision
-invariant-loop-decision l = record {
-  none : is_against (take l.decision-index l.part) l.nurse l.day l.choice ≡ false;
-}

@@ -1,5 +1,0 @@
-use Rattle.std.proofs.Common.{◌≡◌, length}
-use Rattle.roster_worths.proofs.known.count_cheapest.Given as goal
-
-abbrev pub invariant-loop-nurse : goal.invariant-loop-nurse
-invariant-loop-nurse l = length l.cover ≡ length l.fn.cover
