@@ -1,6 +1,6 @@
 """What ../desk starts."""
 # (what `signal` itself imports takes a while)
-import _signal
+import _signal  # type: ignore[import]
 
 # until the desk takes its signals, Ctrl-C ends it without a word
 if _signal.getsignal(_signal.SIGINT) is _signal.default_int_handler:
@@ -9,13 +9,11 @@ _signal.pthread_sigmask(_signal.SIG_UNBLOCK, [_signal.SIGINT])
 import os
 import sys
 
-# the tree stays as it is, unless the caller has a place for what Python keeps
+# the tree stays as it is, unless the caller names a folder for what Python keeps
 sys.dont_write_bytecode = sys.pycache_prefix is None
 if sys.version_info < (3, 10):
     sys.exit("desk: Python 3.10 or later is needed")
-TOP = os.path.dirname(os.path.dirname(os.path.realpath(__file__)))
-# (the soft rules stand in tools/reckoning.py)
-sys.path[:1] = [TOP, f"{TOP}/tools"]
+sys.path[0] = os.path.dirname(os.path.dirname(os.path.realpath(__file__)))
 
 from desk_lib.command_line import main
 

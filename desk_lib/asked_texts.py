@@ -5,8 +5,8 @@ import contextlib
 
 from desk_lib import gone
 from desk_lib.asks import AWAY, Asks
+from desk_lib.case import Choice, NurseDay
 from desk_lib.grammar import DAYS, Part, Section
-from desk_lib.model import Choice
 from desk_lib.program import Program, plan_in
 from desk_lib.replacing import Replacement
 from desk_lib.texts import DeskError, Edit, Text, Texts, shown
@@ -25,10 +25,12 @@ class Asked:
 
     def lines(self) -> collections.abc.Iterator[tuple[int, bytes, bytes]]:
         """The lines that weeks get: the week, the section, and the words."""
-        requests = {at: self.request(it) for at, it in self.asks.days_of("off", "pin").items()}
-        absences = dict.fromkeys(self.asks.days_of(*AWAY), (ABSENT, []))
-        of_days = [*sorted((requests | absences).items()), *((at, (FIXED, [])) for at in sorted(self.asks.fixed))]
-        for (nurse, day), (keyword, shift) in of_days:
+        of_days: dict[NurseDay, tuple[bytes, list[bytes]]] = {
+            at: self.request(choice) for at, choice in self.asks.days_of("off", "pin").items()
+        }
+        of_days |= {at: (ABSENT, []) for at in self.asks.days_of(*AWAY)}
+        fixed: list[tuple[NurseDay, tuple[bytes, list[bytes]]]] = [(at, (FIXED, [])) for at in sorted(self.asks.fixed)]
+        for (nurse, day), (keyword, shift) in [*sorted(of_days.items()), *fixed]:
             yield day // 7, keyword, b" ".join([self.plan.case.nurses[nurse].name, *shift, DAYS[day % 7]])
 
     def request(self, choice: Choice) -> tuple[bytes, list[bytes]]:
@@ -42,14 +44,15 @@ class Asked:
             more[week, keyword].append(line)
         found = []
         for week, part in enumerate(self.plan.bundle.weeks):
-            found += self.of_week(part, {it: more[week, it] for it in SECTIONS}, end)
+            found += self.of_week(part, {keyword: more[week, keyword] for keyword in SECTIONS}, end)
         return found
 
     def of_week(self, part: Part, more: dict[bytes, list[bytes]], end: bytes) -> list[Edit]:
         """What gives a week these lines, each after `end`. A section that it hasn't comes after the one before it."""
-        found, after = [], b""
+        found: list[Edit] = []
+        after = b""
         for keyword in reversed(SECTIONS):
-            new = b"".join(end + it for it in more[keyword])
+            new = b"".join(end + line for line in more[keyword])
             if keyword in part:
                 found += self.of_section(part[keyword], len(more[keyword]), new, after)
                 after = b""
@@ -58,11 +61,11 @@ class Asked:
         return found
 
     def of_section(self, section: Section, count: int, new: bytes, after: bytes) -> list[Edit]:
-        """What gives a section so many lines more, and sections after it. New lines come before those that are there."""
+        """What gives a section this number of lines more, and sections after it. New lines come before those that are there."""
         at = section.at + 2
         if not section.lines:
             new, after = new + after, b""
-        found = [(*self.word(at), b"%d%s" % (section.count + count, new))] if new else []
+        found: list[Edit] = [(*self.word(at), b"%d%s" % (section.count + count, new))] if new else []
         if after:
             first, *rest = section.lines[-1]
             found.append((self.end(first + len(rest)), 0, after))
@@ -84,12 +87,13 @@ class Asked:
 
     def duties(self) -> list[Edit]:
         """What puts the duties into the solutions: another shift into the line of that day, or one line more."""
-        found, case = [], self.plan.case
+        case = self.plan.case
+        found: list[Edit] = []
         for week, part in enumerate(self.plan.bundle.solutions):
             section, new = part[b"ASSIGNMENTS"], []
             there = {(self.asks.nurses[self.words.words[first]], day): at for first, day, *at in section.lines}
-            for (nurse, day), (shift, skill) in sorted(self.asks.days_of("duty").items()):
-                names = [case.shifts[shift].name, case.skills[skill]]
+            for (nurse, day), choice in sorted(self.asks.days_of("duty").items()):
+                names = [case.shifts[choice[0]].name, case.skills[choice[1]]] if choice else []
                 if day // 7 == week and (nurse, day % 7) in there:
                     found += [(*self.word(at), name) for at, name in zip(there[nurse, day % 7], names)]
                 elif day // 7 == week:
@@ -104,7 +108,7 @@ class Asked:
         return texts.edited([*self.of_weeks(b" "), *self.needs(), *self.contracts(b" "), *self.duties()])
 
     def scenario(self, texts: Texts) -> bytes | None:
-        """The scenario with the contracts of those who are gone, where somebody is."""
+        """The scenario with the contracts of those who are gone, if somebody is."""
         end = self.words.offset(self.plan.bundle.history[b"HISTORY"].at)
         text = Text("", texts.joined[:end]).edited(0, self.contracts(b"\n"))
         return text.data.rstrip() + b"\n" if self.asks.gone else None
@@ -112,7 +116,7 @@ class Asked:
     def week_data(self, texts: Texts) -> list[bytes]:
         """The week data with all that is asked for, as texts of their own."""
         bundle, edits, found = self.plan.bundle, [*self.of_weeks(b"\n"), *self.needs()], []
-        heads = [it[b"WEEK_DATA"].at for it in bundle.weeks] + [bundle.solutions[0][b"SOLUTION"].at]
+        heads = [part[b"WEEK_DATA"].at for part in bundle.weeks] + [bundle.solutions[0][b"SOLUTION"].at]
         for first, last in zip(map(self.words.offset, heads), map(self.words.offset, heads[1:])):
             text = Text("", texts.joined[first:last]).edited(first, edits)
             found.append(text.data.rstrip() + b"\n")
@@ -120,24 +124,25 @@ class Asked:
 
 
 def write_weeks(roster: Program, asks: Asks, texts: Texts, names: list[str], scenario_name: str) -> list[str]:
-    """Writes the week data with all that is asked for into files of these names, and the scenario where somebody is gone, once all
-    of them are read back: by the desk as the case that it passes on, and by the program, which answers the same to both. Returns
+    """Writes the week data with all that is asked for into files of these names, and the scenario if somebody is gone, once all of
+    them are read back: by the desk as the case that it passes on, and by the program, which answers the same to both. Returns
     the names of what was written."""
     plan, asked = asks.plan, Asked(asks)
     scenario, passed = asked.scenario(texts), asked.added_to(texts)
     there = plan_in(passed)
-    history, first = (plan.words.offset(it.at) for it in (plan.bundle.history[b"HISTORY"], plan.bundle.weeks[0][b"WEEK_DATA"]))
+    heads = plan.bundle.history[b"HISTORY"], plan.bundle.weeks[0][b"WEEK_DATA"]
+    history, first = (plan.words.offset(section.at) for section in heads)
     solutions = Text("the solutions", passed.joined[there.solutions_offset() :])
     files = [*zip(names, asked.week_data(texts)), *([(scenario_name, scenario)] if scenario else [])]
     with contextlib.ExitStack() as stack:
-        new = [stack.enter_context(Replacement(*it)) for it in files]
+        new = [stack.enter_context(Replacement(name, data)) for name, data in files]
         before = [Text(scenario_name, new[-1].read()), Text("the history", texts.joined[history:first])]
         before = before if scenario else texts.before(first, []).texts
-        back = Texts([*before, *(Text(it.name, it.read()) for it in new[: len(names)]), solutions])
-        answers = (roster.call(["cost"], it.joined) for it in (back, passed))
+        back = Texts([*before, *(Text(file.name, file.read()) for file in new[: len(names)]), solutions])
+        answers = (roster.call(["cost"], both.joined) for both in (back, passed))
         if plan_in(back).case != there.case or next(answers) != next(answers):
-            told = f"{shown(names[0])}: read back they are other week data; nothing is replaced"
-            raise DeskError(f"{told}. This is a fault of the desk", 3)
-        for it in new:
-            it.put()
+            message = f"{shown(names[0])}: read back they are other week data; nothing is replaced"
+            raise DeskError(f"{message}. This is a fault of the desk", 3)
+        for file in new:
+            file.put()
     return [name for name, _ in files]

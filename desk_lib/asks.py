@@ -11,8 +11,8 @@
     start DATE                      week 0 begins on this Monday: days may be dates
 
 desk_lib/days.py says how days are named. What follows a '#' is a remark. An absence becomes a line of the section ABSENCES, and a day
-that stays one of FIXED. A day off is asked for by an off request, and a pin by a wish or an off request: each costs 10 where it isn't
-met, and a roster may well not meet it. So each roster is looked at, and where it fails is told. desk_lib/gone.py has the contract of
+that stays one of FIXED. A day off is asked for by an off request, and a pin by a wish or an off request: each costs 10 if it isn't
+met, and a roster may well not meet it. So the desk looks at each roster, and reports what it fails. desk_lib/gone.py has the contract of
 who is gone, and desk_lib/asked_texts.py the texts with all of it.
 """
 import collections.abc
@@ -20,10 +20,11 @@ import dataclasses
 import datetime
 import typing
 
-from desk_lib.days import day_in, day_place, days_in, monday_in
+from desk_lib.case import Choice, NurseDay, Roster, ShiftSkill
+from desk_lib.days import day_in, day_text, days_in, monday_in
 from desk_lib.findings import nearest, numbered
 from desk_lib.grammar import MOST_OF
-from desk_lib.model import Choice, Plan, Roster, choice_name
+from desk_lib.model import Plan, choice_name
 from desk_lib.texts import DeskError, Text, plural, shown
 
 # The form of each line, and how many words there are after the first one.
@@ -38,6 +39,7 @@ FORMS = {
     b"today": ("today DAY", 1, 1),
     b"start": ("start DATE", 1, 1),
 }
+Read = typing.TypeVar("Read")
 # Those by which the nurse can't work, those by which she does what the roster says now, and those that are hard rules of a day.
 AWAY, KEEPING, FIXING = ("absent", "gone"), ("pin", "fix"), ("fix", "duty")
 
@@ -60,12 +62,12 @@ class Ask:
 
 def lines_of(text: Text) -> list[tuple[int, list[bytes]]]:
     """The lines that have words, with their numbers."""
-    lines = [it.partition(b"#")[0].split() for it in text.data.splitlines()]
+    lines = [line.partition(b"#")[0].split() for line in text.data.splitlines()]
     return [(number, words) for number, words in enumerate(lines, 1) if words]
 
 
-def wrong(text: Text, line: int, told: str) -> DeskError:
-    return DeskError(f"{shown(text.name)}:{line}: {told}")
+def wrong(text: Text, line: int, message: str) -> DeskError:
+    return DeskError(f"{shown(text.name)}:{line}: {message}")
 
 
 def start_in(text: Text, start: datetime.date | None) -> datetime.date | None:
@@ -105,11 +107,11 @@ class Asks:
             self.take(line, kind, *rest)
         self.check()
 
-    def wrong(self, line: int, told: str) -> DeskError:
-        return wrong(self.text, line, told)
+    def wrong(self, line: int, message: str) -> DeskError:
+        return wrong(self.text, line, message)
 
-    def answer(self, line: int, told: str) -> None:
-        self.answers.append(f"{shown(self.text.name)}:{line}: {told}")
+    def answer(self, line: int, text: str) -> None:
+        self.answers.append(f"{shown(self.text.name)}:{line}: {text}")
 
     def take(self, line: int, kind: bytes, *rest: bytes) -> None:
         """Takes a line."""
@@ -118,7 +120,7 @@ class Asks:
         form, least, most = FORMS[kind]
         if not least <= len(rest) <= most:
             days = ", and days as 0:Mon..0:Wed" if "DAYS" in form else ""
-            raise self.wrong(line, f"the form of this line is '{form}', where a day is as 0:Mon{days}")
+            raise self.wrong(line, f"the form of this line is '{form}', with a day as 0:Mon{days}")
         if kind == b"need":
             self.take_need(line, *rest)
         elif kind == b"today":
@@ -132,13 +134,13 @@ class Asks:
             for day in ask.days if ask.kind in AWAY else ():
                 if day < self.past and self.roster[ask.nurse][day]:
                     works = choice_name(self.plan.case, self.roster[ask.nurse][day])
-                    told = f"the roster has {works} then, and the day is past by {self.past_by}"
+                    message = f"the roster has {works} then, and the day is past by {self.past_by}"
                     name = shown(self.plan.case.nurses[ask.nurse].name)
-                    raise self.wrong(ask.line, f"{ask.kind} {name} {day_place(day)}: {told}; let the line begin later")
+                    raise self.wrong(ask.line, f"{ask.kind} {name} {day_text(day)}: {message}; let the line begin later")
         count, most = len(self.plan.case.contracts) + len(self.gone), MOST_OF[b"CONTRACTS"]
         if self.gone and count > most:
-            told = f"each nurse who is gone gets a contract of her own, and {count} contracts are more than {most}"
-            raise self.wrong(max(it.line for it in self.asks if it.kind == "gone"), f"{told}; let fewer be gone")
+            message = f"each nurse who is gone gets a contract of her own, and {count} contracts are more than {most}"
+            raise self.wrong(max(ask.line for ask in self.asks if ask.kind == "gone"), f"{message}; let fewer be gone")
 
     # ---- one line
 
@@ -153,12 +155,13 @@ class Asks:
         for day, choice in ask.days.items():
             before = self.of_days.setdefault((ask.nurse, day), (choice, ask.line))
             if before[0] != choice:
-                told = f"{day_place(day)} is asked for otherwise in line {before[1]}"
-                raise self.wrong(ask.line, f"{told}; take one of them away")
+                message = f"{day_text(day)} is asked for otherwise in line {before[1]}"
+                raise self.wrong(ask.line, f"{message}; take one of them away")
             if ask.kind == "duty":
                 self.roster[ask.nurse][day] = choice
         self.asks.append(ask)
-        duty = "".join(f" {day_place(day)} {choice_name(self.plan.case, it)}" for day, it in ask.days.items() if ask.kind == "duty")
+        names = [f" {day_text(day)} {choice_name(self.plan.case, choice)}" for day, choice in ask.days.items()]
+        duty = "".join(names) if ask.kind == "duty" else ""
         name = shown(self.plan.case.nurses[ask.nurse].name)
         self.answer(ask.line, f"{ask.kind} {name}{duty}: {plural(len(ask.days), 'day')}")
 
@@ -178,42 +181,42 @@ class Asks:
         # (after the shift and the skill stand pairs of five words, of which the second is the minimum)
         before = self.needs.setdefault(at + 2 + 5 * weekday + 1, (count, line))
         if int(before[0]) != int(count):
-            raise self.wrong(line, f"{day_place(day)} needs otherwise in line {before[1]}; take one of them away")
-        self.answer(line, f"need {day_place(day)} {shown(shift)} {shown(skill)} {int(count)}: 1 day")
+            raise self.wrong(line, f"{day_text(day)} needs otherwise in line {before[1]}; take one of them away")
+        self.answer(line, f"need {day_text(day)} {shown(shift)} {shown(skill)} {int(count)}: 1 day")
 
-    def take_today(self, place: str, by: str, word: bytes) -> None:
+    def take_today(self, source: str, by: str, word: bytes) -> None:
         """Notes what day it is, by the line or the option that stands there."""
         try:
             day = day_in(word, self.plan.case.weeks, self.start)
         except DeskError as why:
-            raise DeskError(f"{place}: {why}", why.status if by == place else 1) from None
+            raise DeskError(f"{source}: {why}", why.status if by == source else 1) from None
         if self.past_by and day != self.past:
-            raise DeskError(f"{place}: {day_place(self.past)} is today by {self.past_by}; take one of them away")
+            raise DeskError(f"{source}: {day_text(self.past)} is today by {self.past_by}; take one of them away")
         if day and not any(any(row[:day]) for row in self.roster):
-            told = f"nobody works before {day_place(day)} in the roster given, so nothing can be kept"
-            raise DeskError(f"{place}: {told}; give the roster of these days, or take this away")
+            message = f"nobody works before {day_text(day)} in the roster given, so nothing can be kept"
+            raise DeskError(f"{source}: {message}; give the roster of these days, or take this away")
         self.past, self.past_by = day, by
-        self.answers.append(f"{place}: today is {day_place(day)}: {plural(day, 'day')} before it")
+        self.answers.append(f"{source}: today is {day_text(day)}: {plural(day, 'day')} before it")
 
     def duty(self, line: int, nurse: int, word: bytes, shift_word: bytes, skill_word: bytes | None = None) -> dict[int, Choice]:
-        """The day of a duty, and what it is. Where no skill is named it is the one that the nurse has then by the roster, or that of
-        her skills at which the shift lacks most."""
+        """The day of a duty, and what it is. If no skill is named it is the one that the nurse has then by the roster, or that of her
+        skills of which the shift lacks most."""
         case, day = self.plan.case, self.day(line, word)
-        shift = self.number(line, "shift", shift_word, [it.name for it in case.shifts])
+        shift = self.number(line, "shift", shift_word, [known.name for known in case.shifts])
         skills = sorted(case.nurses[nurse].skills)
         if skill_word is None:
             return {day: self.lacking_most(day, [(shift, skill) for skill in skills], self.plan.roster[nurse][day])}
         skill = self.number(line, "skill", skill_word, case.skills)
         if skill not in skills:
-            has = " or ".join(shown(case.skills[it]) for it in skills)
-            told = f"{shown(case.nurses[nurse].name)} hasn't the skill {shown(skill_word)}"
-            raise self.wrong(line, f"{told}; name {has or 'another nurse'}")
+            has = " or ".join(shown(case.skills[own]) for own in skills)
+            message = f"{shown(case.nurses[nurse].name)} hasn't the skill {shown(skill_word)}"
+            raise self.wrong(line, f"{message}; name {has or 'another nurse'}")
         return {day: (shift, skill)}
 
-    def lacking_most(self, day: int, choices: list[Choice], now: Choice) -> Choice:
+    def lacking_most(self, day: int, choices: list[ShiftSkill], now: Choice) -> Choice:
         """Of these choices the one that is there now, or that of which the day lacks most: of the minimum, then of the optimum."""
 
-        def lacks(choice: Choice) -> tuple[bool, int, int]:
+        def lacks(choice: ShiftSkill) -> tuple[bool, int, int]:
             need = self.plan.case.needs[choice][day] if choice in self.plan.case.needs else (0, 0)
             have = sum(row[day] == choice for row in self.roster)
             return choice == now, max(0, need[0] - have), max(0, need[1] - have)
@@ -221,12 +224,12 @@ class Asks:
         return max(choices, key=lacks)
 
     def kept(self, line: int, kind: str, nurse: int, day: int) -> Choice:
-        """What the roster says that a nurse does on a day. Where nobody works in that week there is no roster to keep."""
+        """What the roster says that a nurse does on a day. If nobody works in that week there is no roster to keep."""
         week = slice(day // 7 * 7, day // 7 * 7 + 7)
         if not any(any(row[week]) for row in self.plan.roster):
             name = shown(self.plan.case.nurses[nurse].name)
-            told = f"{kind} {name} {day_place(day)}: nobody works in this week of the roster given, so nothing can be kept"
-            raise self.wrong(line, f"{told}; give a roster of that week, or take the line away")
+            message = f"{kind} {name} {day_text(day)}: nobody works in this week of the roster given, so nothing can be kept"
+            raise self.wrong(line, f"{message}; give a roster of that week, or take the line away")
         return self.plan.roster[nurse][day]
 
     def number(self, line: int, what: str, word: bytes, names: list[bytes]) -> int:
@@ -235,8 +238,8 @@ class Asks:
     def day(self, line: int, word: bytes) -> int:
         return self.read(line, lambda: day_in(word, self.plan.case.weeks, self.start))
 
-    def read(self, line: int, read: collections.abc.Callable[[], typing.Any]) -> typing.Any:
-        """What is read of a line; why it can't be read is told with the line."""
+    def read(self, line: int, read: collections.abc.Callable[[], Read]) -> Read:
+        """What is read of a line. If it can't be read, the error names the line."""
         try:
             return read()
         except DeskError as why:
@@ -244,12 +247,12 @@ class Asks:
 
     # ---- all lines
 
-    def days_of(self, *kinds: str) -> dict[tuple[int, int], Choice]:
+    def days_of(self, *kinds: str) -> dict[NurseDay, Choice]:
         """What asks of these kinds name: by the nurse and the day what she is to do then."""
-        return {(it.nurse, day): choice for it in self.asks if it.kind in kinds for day, choice in it.days.items()}
+        return {(ask.nurse, day): choice for ask in self.asks if ask.kind in kinds for day, choice in ask.days.items()}
 
     @property
-    def fixed(self) -> set[tuple[int, int]]:
+    def fixed(self) -> set[NurseDay]:
         """The nurses and days that stay as they are."""
         past = {(nurse, day) for nurse in range(len(self.roster)) for day in range(self.past)}
         return past.union(self.days_of(*FIXING))
@@ -263,14 +266,14 @@ class Asks:
         return found
 
     def failed(self, roster: Roster) -> list[str]:
-        """Where a roster fails, a line for each line of the text, and how much is as it was asked for."""
+        """What a roster fails, with a line for each line of the text, and how much is as it was asked for."""
         found, count = [], 0
         for ask in self.asks:
             days = [day for day, choice in ask.days.items() if roster[ask.nurse][day] != choice]
             count += len(days)
             if days:
-                told = ", ".join(f"{day_place(day)} {choice_name(self.plan.case, roster[ask.nurse][day])}" for day in days)
+                works = ", ".join(f"{day_text(day)} {choice_name(self.plan.case, roster[ask.nurse][day])}" for day in days)
                 name = shown(self.plan.case.nurses[ask.nurse].name)
-                found.append(f"{shown(self.text.name)}:{ask.line}: {ask.kind} {name} isn't kept: {told}; {ask.remedy()}")
-        whole = sum(len(it.days) for it in self.asks)
+                found.append(f"{shown(self.text.name)}:{ask.line}: {ask.kind} {name} isn't kept: {works}; {ask.remedy()}")
+        whole = sum(len(ask.days) for ask in self.asks)
         return [*found, f"{shown(self.text.name)}: {whole - count} of {plural(whole, 'day')} as asked for"] if self.asks else []

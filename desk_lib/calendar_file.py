@@ -1,6 +1,6 @@
 """The command `ics`: a nurse's shifts as a calendar (RFC 5545), for telephones and mail programs.
 
-Each shift is an event on its date: with the shift's times where they are given, which are the ward's local ones, else for the
+Each shift is an event on its date: with the shift's times if they are given, which are the ward's local ones, else for the
 whole day. The same day of the same nurse has the same UID in every roster of the ward, so that a new calendar replaces the old.
 """
 import dataclasses
@@ -14,7 +14,7 @@ from desk_lib.model import Plan
 from desk_lib.texts import DeskError, shown
 
 TIMES = re.compile(r"(.+)=(\d\d):(\d\d)-(\d\d):(\d\d)")
-# A line of a calendar has so many bytes at most; what is longer goes on in the next one, after a blank.
+# How many bytes a line of a calendar has at most; what is longer goes on in the next one, after a blank.
 LINE = 75
 MARKS = str.maketrans({"\\": "\\\\", ";": "\\;", ",": "\\,", "\n": "\\n"})
 
@@ -30,18 +30,18 @@ class Times:
 def times_in(word: str, plan: Plan) -> tuple[int, Times]:
     """The shift that a word such as Night=21:30-06:30 names, and its times. What ends no later than it begins ends on the next
     day."""
-    told = TIMES.fullmatch(word)
-    if not told:
+    match = TIMES.fullmatch(word)
+    if not match:
         raise DeskError(f"--time {shown(word)}: the form is SHIFT=HH:MM-HH:MM, as Night=21:30-06:30", 2)
-    names = [it.name for it in plan.case.shifts]
-    if os.fsencode(told[1]) not in names:
-        like = nearest(os.fsencode(told[1]), names)
-        raise DeskError(f"--time {shown(word)}: the scenario has no shift '{shown(told[1])}'{like}", 2)
-    numbers = [int(it) for it in told.groups()[1:]]
+    names = [shift.name for shift in plan.case.shifts]
+    if os.fsencode(match[1]) not in names:
+        like = nearest(os.fsencode(match[1]), names)
+        raise DeskError(f"--time {shown(word)}: the scenario has no shift '{shown(match[1])}'{like}", 2)
+    numbers = [int(digits) for digits in match.groups()[1:]]
     if max(numbers[0::2]) > 23 or max(numbers[1::2]) > 59:
         raise DeskError(f"--time {shown(word)}: a time is from 00:00 to 23:59", 2)
     begin, end = (datetime.timedelta(hours=numbers[at], minutes=numbers[at + 1]) for at in (0, 2))
-    return names.index(os.fsencode(told[1])), Times(begin, end - begin + datetime.timedelta(days=end <= begin))
+    return names.index(os.fsencode(match[1])), Times(begin, end - begin + datetime.timedelta(days=end <= begin))
 
 
 def folded(line: str) -> bytes:
@@ -71,20 +71,19 @@ class Calendar:
         lines = ["BEGIN:VCALENDAR", "VERSION:2.0", "PRODID:-//Binsummer//desk//EN", f"X-WR-CALNAME:{text(name)}"]
         for day, choice in enumerate(self.plan.roster[number]):
             if choice:
-                lines += self.event(number, day)
+                lines += self.event(number, day, *choice)
         return b"".join(map(folded, [*lines, "END:VCALENDAR"]))
 
-    def event(self, number: int, day: int) -> list[str]:
-        shift, skill = self.plan.roster[number][day]
+    def event(self, number: int, day: int, shift: int, skill: int) -> list[str]:
         date = self.start + datetime.timedelta(day)
         who = hashlib.sha256(self.case.name + b"\0" + self.case.nurses[number].name).hexdigest()[:16]
-        told = f"{shown(self.case.shifts[shift].name)} ({shown(self.case.skills[skill])})"
+        summary = f"{shown(self.case.shifts[shift].name)} ({shown(self.case.skills[skill])})"
         return [
             "BEGIN:VEVENT",
             f"UID:{date:%Y%m%d}-{who}@desk.roster",
             f"DTSTAMP:{self.made:%Y%m%dT%H%M%SZ}",
             *self.span(shift, date),
-            f"SUMMARY:{text(told)}",
+            f"SUMMARY:{text(summary)}",
             "END:VEVENT",
         ]
 

@@ -1,260 +1,283 @@
-"""The commands of the desk: each takes what the command line asks for and the program, and returns the status."""
-import argparse
+"""The commands of the desk: each takes its options, what they give and the program, and returns the status."""
 import os
 import time
 
-from desk_lib import asked_texts, breaches, calendar_file, check, floor, grid, improve, near, next_month, outputs, page
+from desk_lib import asked_texts, breaches, calendar_file, check, grid, improve, lower_bound, near, next_month, outputs, page
 from desk_lib import plot, polish, program, replacing, shortage, split, swap, tables, views, who
 from desk_lib.costs import Costing
-from desk_lib.days import day_in
-from desk_lib.given import SOLUTIONS, asks_of, both_plans, costings, files_read, texts_of, told_asks, write, write_bytes
-from desk_lib.given import write_text
+from desk_lib.days import day_in, days_in
+from desk_lib.given import SOLUTIONS, Given, asks_of, both_plans, costings, files_read, reported_asks, texts_of, write
+from desk_lib.given import write_bytes, write_text
 from desk_lib.model import Plan
+from desk_lib.options import ChangesOptions, CheckOptions, CostsOptions, CsvOptions, GridOptions, HistoryOptions, IcsOptions
+from desk_lib.options import ImproveOptions, NextOptions, Options, PageOptions, SplitOptions, SwapOptions, WeeksOptions
+from desk_lib.options import WhoOptions, WhyOptions
 from desk_lib.program import Program
 from desk_lib.sheet import Sheet
 from desk_lib.texts import DeskError, Texts, plural, read_file, shown
 from desk_lib.why import nurse_in, why_lines
 
 
-def run_check(asked: argparse.Namespace, roster: Program) -> int:
-    lines, status = check.check(roster, texts_of(asked), lambda plan: told_asks(asked, plan))
+def run_check(options: CheckOptions, given: Given, roster: Program) -> int:
+    lines, status = check.check(roster, texts_of(options), lambda plan: reported_asks(given, plan))
     write(lines)
     return status
 
 
-def run_costs(asked: argparse.Namespace, roster: Program) -> int:
-    if asked.since != "0" and not asked.bound:
-        raise DeskError("--from: this is of the floor; ask for it by --bound", 2)
-    pairs = both_plans(asked, roster)
-    *before, costing = costings(asked, roster, pairs, asked.other is not None)
-    least, old = floor_of(asked, roster, pairs[-1][0]), before[0] if before else None
+def run_costs(options: CostsOptions, given: Given, roster: Program) -> int:
+    if options.common.since != "0" and not options.bound:
+        raise DeskError("--from: this is of the lower bound; ask for one by --bound", 2)
+    pairs = both_plans(given, roster)
+    *before, costing = costings(options, roster, pairs, options.common.other is not None)
+    old = before[0] if before else None
+    bound = bound_by(roster, pairs[-1][0], given.first_week) if options.bound else None
     broken = breaches.all_breaches(old.plan) if old else []
-    for line in breaches.words_told(broken):
+    for line in breaches.breach_lines(broken):
         program.warn(line)
     if broken:
         program.warn(f"so the first roster breaks {plural(len(broken), 'hard rule')}, which no cost has a part of")
-    told = [] if least is None else floor.lines(costing.totals_by_rule()["total"], least, has_frozen(asked, costing.plan))
-    write([tables.json_text(costing, old, least)] if asked.json else [*tables.cost_lines(costing, old), *told])
+    if options.json:
+        write([tables.json_text(costing, old, bound)])
+        return 0
+    lines = tables.cost_lines(costing, old)
+    if bound is not None:
+        lines += lower_bound.lines(costing.penalty, bound, has_frozen(given.first_week, costing.plan))
+    write(lines)
     return 0
 
 
-def sheet_of(asked: argparse.Namespace, roster: Program) -> tuple[Sheet, Costing | None, Texts]:
+def sheet_of(given: Given, roster: Program) -> tuple[Sheet, Costing | None, Texts]:
     """What a grid shows: the roster, or the second one with its changes."""
-    pairs = both_plans(asked, roster)
-    *before, costing = costings(asked, roster, pairs, may_break=True)
+    pairs = both_plans(given, roster)
+    *before, costing = costings(given.options, roster, pairs, may_break=True)
     old = before[0] if before else None
-    start = getattr(asked, "start", None)
-    return Sheet(costing, old and old.plan.roster, asked.first_week, start), old, pairs[-1][0]
+    return Sheet(costing, old.plan.roster if old else None, given.first_week, given.start), old, pairs[-1][0]
 
 
-def run_grid(asked: argparse.Namespace, roster: Program) -> int:
-    sheet, _, _ = sheet_of(asked, roster)
-    write(grid.grid_lines(sheet, asked.skills, asked.width))
+def run_grid(options: GridOptions, given: Given, roster: Program) -> int:
+    sheet, _, _ = sheet_of(given, roster)
+    write(grid.grid_lines(sheet, options.skills, options.width))
     return 0
 
 
-def run_page(asked: argparse.Namespace, roster: Program) -> int:
-    log = plot.points_in(read_file(asked.log).data, asked.log) if asked.log else []
-    sheet, before, texts = sheet_of(asked, roster)
-    least = floor_of(asked, roster, texts)
-    nurse = None if asked.nurse is None else nurse_in(sheet.costing.plan, asked.nurse)
-    title = f"Roster {shown(sheet.case.name)}" if asked.title is None else asked.title
-    wanted = page.Wanted(title, roster.version(), asked.notice, nurse)
-    write_text(asked.out, page.Page(sheet, before, log, least, wanted).text())
+def run_page(options: PageOptions, given: Given, roster: Program) -> int:
+    log = plot.points_in(read_file(options.log).data, options.log) if options.log else []
+    sheet, before, texts = sheet_of(given, roster)
+    bound = bound_by(roster, texts, given.first_week) if options.bound else None
+    nurse = None if options.nurse is None else nurse_in(sheet.costing.plan, options.nurse)
+    title = f"Roster {shown(sheet.case.name)}" if options.title is None else options.title
+    wanted = page.Wanted(title, roster.version(), options.notice, nurse)
+    write_text(options.out, page.Page(sheet, before, log, bound, wanted).text())
     return 0
 
 
-def run_changes(asked: argparse.Namespace, roster: Program) -> int:
-    if not asked.other:
+def run_changes(options: ChangesOptions, given: Given, roster: Program) -> int:
+    if not options.common.other:
         raise DeskError("changes: --with names the second roster", 2)
-    sheet, _, _ = sheet_of(asked, roster)
+    sheet, _, _ = sheet_of(given, roster)
     write(views.change_lines(sheet))
     return 0
 
 
-def run_csv(asked: argparse.Namespace, roster: Program) -> int:
-    [(_, plan)] = both_plans(asked, roster)
-    write_text(asked.out, tables.csv_text(plan, asked.start))
+def run_csv(options: CsvOptions, given: Given, roster: Program) -> int:
+    [(_, plan)] = both_plans(given, roster)
+    write_text(options.out, tables.csv_text(plan, given.start))
     return 0
 
 
-def run_why(asked: argparse.Namespace, roster: Program) -> int:
-    pairs = both_plans(asked, roster)
-    [costing] = costings(asked, roster, pairs)
-    day = day_in(os.fsencode(asked.day), costing.case.weeks, asked.start)
-    write(why_lines(roster, pairs[0][0], costing, asked.nurse, day))
+def run_why(options: WhyOptions, given: Given, roster: Program) -> int:
+    pairs = both_plans(given, roster)
+    [costing] = costings(options, roster, pairs)
+    day = day_in(os.fsencode(options.day), costing.case.weeks, given.start)
+    write(why_lines(roster, pairs[0][0], costing, options.nurse, day))
     return 0
 
 
-def floor_of(asked: argparse.Namespace, roster: Program, texts: Texts) -> int | None:
-    """The floor by `bound`, where one is asked for."""
-    return floor.found_by(roster, texts, asked.first_week)[1] if asked.bound else None
+def bound_by(roster: Program, texts: Texts, first_week: int) -> int:
+    """The lower bound by `roster bound`."""
+    return lower_bound.found_by(roster, texts, first_week)[1]
 
 
-def has_frozen(asked: argparse.Namespace, plan: Plan) -> bool:
+def has_frozen(first_week: int, plan: Plan) -> bool:
     """Whether some days are frozen."""
-    return bool(asked.first_week or plan.case.fixed)
+    return bool(first_week or plan.case.fixed)
 
 
-def check_search(asked: argparse.Namespace) -> None:
-    """Refuses options of a search where there is none that takes them."""
-    has_polish = asked.polish is not None or asked.seconds is not None
-    if asked.seeds and not has_polish:
+# ---- improve
+
+
+def check_search(options: ImproveOptions) -> None:
+    """Refuses options of a search if there is none that takes them."""
+    has_polish = options.polish is not None or options.seconds is not None
+    if options.seeds and not has_polish:
         raise DeskError("--seeds: these are the seeds of polish; say how long by --polish or --seconds", 2)
-    if asked.seeds and asked.seed is not None:
+    if options.seeds and options.seed is not None:
         raise DeskError("--seed and --seeds: these name the seeds of the same runs; give one of the two", 2)
-    if asked.seed is not None and not (has_polish or asked.plan):
+    if options.seed is not None and not (has_polish or options.plan):
         raise DeskError("--seed: this is the seed of polish and of plan; say how long by --polish or --seconds", 2)
-    if asked.slice is not None and not has_polish:
+    if options.slice is not None and not has_polish:
         raise DeskError("--slice: slices are of polish; say how long by --polish or --seconds", 2)
-    if asked.rounds is not None and asked.plan:
+    if options.rounds is not None and options.plan:
         raise DeskError("--rounds: with --plan there are no rounds; leave one of the two out", 2)
 
 
-def check_near(asked: argparse.Namespace) -> None:
-    """Refuses options that --few and --keep leave no place for."""
+def check_near(options: ImproveOptions) -> None:
+    """Refuses options that can't be given with --few or --keep."""
 
-    def leave(told: str, *options: str) -> None:
-        given = [f"--{it}" for it in options if getattr(asked, it) not in (None, False)]
+    def leave_out(message: str, *names: str) -> None:
+        given = [f"--{name}" for name in names if getattr(options, name) not in (None, False)]
         if given:
-            raise DeskError(f"{told}; leave {' and '.join(given)} out", 2)
+            raise DeskError(f"{message}; leave {' and '.join(given)} out", 2)
 
-    if asked.few:
-        leave("--few: it asks 'roster plan' with several --keep, by one seed", "plan", "rounds", "keep", "bound", "seeds", "slice")
-    if asked.keep is not None:
-        told = "--keep: changes count from the roster given, so there is one run of roster"
-        leave(f"{told}, by one seed, and no floor", "bound", "seeds", "slice")
-        if asked.seconds is not None and not asked.plan:
-            raise DeskError(f"{told}; say how long by --polish or --rounds, or look by --plan", 2)
+    if options.few:
+        several = "--few: it asks 'roster plan' with several --keep, by one seed"
+        leave_out(several, "plan", "rounds", "keep", "bound", "seeds", "slice")
+    if options.keep is not None:
+        message = "--keep: changes count from the roster given, so there is one run of roster"
+        leave_out(f"{message}, by one seed, and no lower bound", "bound", "seeds", "slice")
+        if options.seconds is not None and not options.plan:
+            raise DeskError(f"{message}; say how long by --polish or --rounds, or look by --plan", 2)
 
 
-def run_improve(asked: argparse.Namespace, roster: Program) -> int:
-    check_search(asked)
-    check_near(asked)
-    end = None if asked.seconds is None else time.monotonic() + asked.seconds
-    [(texts, plan)] = both_plans(asked, roster)
-    for it in ["plan"] * (asked.plan or asked.few) + ["polish"] * (asked.polish is not None or end is not None):
-        roster.must_know(it)
-    if asked.first_week >= plan.case.weeks:
-        told = f"--from {asked.first_week}: the roster has {plural(plan.case.weeks, 'week')}, so all days are frozen"
-        program.warn(f"{told}, and nothing can change")
-    if asked.plan or asked.few:
-        check_shortages(plan, asked.first_week)
-    run = run_of(asked, roster, texts, plan)
-    seeds, told = asked.seeds or [1 if asked.seed is None else asked.seed], []
-    wanted = asks_of(asked, plan)
-    improve.finish(run, seeds, lambda: told.extend(search(asked, run, seeds, end)))
+def run_improve(options: ImproveOptions, given: Given, roster: Program) -> int:
+    check_search(options)
+    check_near(options)
+    end = None if options.seconds is None else time.monotonic() + options.seconds
+    [(texts, plan)] = both_plans(given, roster)
+    is_planned, is_polished = options.plan or options.few, options.polish is not None or end is not None
+    for command in ["plan"] * is_planned + ["polish"] * is_polished:
+        roster.must_know(command)
+    if given.first_week >= plan.case.weeks:
+        message = f"--from {given.first_week}: the roster has {plural(plan.case.weeks, 'week')}, so all days are frozen"
+        program.warn(f"{message}, and nothing can change")
+    if is_planned:
+        check_shortages(plan, given.first_week)
+    run = run_of(options, given.first_week, roster, texts, plan)
+    seeds, lines = options.seeds or [1 if options.seed is None else options.seed], []
+    wanted = asks_of(given, plan)
+
+    def work() -> None:
+        lines.extend(search(options, run, seeds, end))
+
+    improve.finish(run, seeds, work)
     failed = wanted.failed(program.plan_in(run.texts()).roster) if wanted else []
-    for line in [*told, *failed]:
+    for line in [*lines, *failed]:
         program.warn(line)
     return 0
 
 
 def check_shortages(plan: Plan, first_week: int) -> None:
-    """Stops where no roster can keep the minimums, whatever is searched, and tells why."""
+    """Stops if no roster can keep the minimums, whatever is searched, and says why."""
     found = shortage.shortages(plan, first_week)
-    for it in found:
-        program.warn(it.line(plan.case))
+    for short in found:
+        program.warn(short.line(plan.case))
     if found:
-        days = plural(len({it.day for it in found}), "day")
-        told = f"on {days} fewer can come than the minimums need, so no roster keeps them, and none was looked for"
-        raise DeskError(f"{told}; lower them by these lines 'need' in the text of --asks")
+        days = plural(len({short.day for short in found}), "day")
+        message = f"on {days} fewer can come than the minimums need, so no roster keeps them, and none was looked for"
+        raise DeskError(f"{message}; lower them by these lines 'need' in the text of --asks")
 
 
-def run_of(asked: argparse.Namespace, roster: Program, texts: Texts, plan: Plan) -> improve.Run:
+def run_of(options: ImproveOptions, first_week: int, roster: Program, texts: Texts, plan: Plan) -> improve.Run:
     """A run that begins with the roster of the texts."""
-    sought = floor.Sought(asked.first_week, has_frozen(asked, plan))
-    run = improve.Run(roster, plan, texts, asked.out, improve.Progress(asked.log, sought), asked.keep)
-    for it in texts.texts:
-        if outputs.identity(it.name) == outputs.identity(asked.out):
+    bound_search = lower_bound.BoundSearch(first_week, has_frozen(first_week, plan))
+    run = improve.Run(roster, plan, texts, options.out, improve.Progress(options.log, bound_search), options.keep)
+    for text in texts.texts:
+        if outputs.identity(text.name) == outputs.identity(options.out):
             # (it may have changed since it was read)
-            run.there = it.read
+            run.there = text.read
     return run
 
 
-def search(asked: argparse.Namespace, run: improve.Run, seeds: list[int], end: float | None) -> list[str]:
-    """All that `improve` makes, one after the other; returns what is told at the end."""
-    if asked.few:
-        return near.repair(run, asked.polish, seeds[0], end)
-    rounds = 100 if asked.rounds is None else asked.rounds
-    if asked.plan:
-        run.plan(asked.polish, seeds[0], end)
-    elif asked.keep is not None and asked.polish is not None:
-        run.whole(["polish", "--searches", str(asked.polish), "--seed", str(seeds[0])])
-    elif asked.keep is not None:
+def search(options: ImproveOptions, run: improve.Run, seeds: list[int], end: float | None) -> list[str]:
+    """All that `improve` makes, one after the other. Returns the lines for the end."""
+    if options.few:
+        return near.repair(run, options.polish, seeds[0], end)
+    rounds = 100 if options.rounds is None else options.rounds
+    if options.plan:
+        run.plan(options.polish, seeds[0], end)
+    elif options.keep is not None and options.polish is not None:
+        run.whole(["polish", "--searches", str(options.polish), "--seed", str(seeds[0])])
+    elif options.keep is not None:
         run.whole(["improve", "--rounds", str(rounds)])
-    if asked.keep is not None:
-        return [near.told(run)]
-    is_optimal = asked.bound and run.seek_floor(asked.seconds)
-    if not asked.plan:
+    if options.keep is not None:
+        return [near.changes_text(run)]
+    is_optimal = options.bound and run.seek_bound(options.seconds)
+    if not options.plan:
         run.rounds(0 if is_optimal else rounds, end)
-    if asked.polish is not None or end is not None:
-        polish.go_on(run, polish.Course(asked.polish, seeds, asked.slice, end, len(run.start.case.nurses)))
+    if options.polish is not None or end is not None:
+        polish.go_on(run, polish.Course(options.polish, seeds, options.slice, end, len(run.start.case.nurses)))
     return []
 
 
-def run_who(asked: argparse.Namespace, roster: Program) -> int:
+# ---- single shifts, and files for other programs
+
+
+def run_who(options: WhoOptions, given: Given, roster: Program) -> int:
     roster.must_know("who")
-    [(texts, plan)] = both_plans(asked, roster)
-    write(who.who_lines(asked, roster, texts, plan))
+    [(texts, plan)] = both_plans(given, roster)
+    write(who.who_lines(options.shift or [], roster, texts, plan, given.start, given.first_week))
     return 0
 
 
-def run_swap(asked: argparse.Namespace, roster: Program) -> int:
-    if asked.out == "-":
-        raise DeskError("--out -: the roster goes into a file, and what is told to standard output; give the name of a file", 2)
-    words = swap.days_of(asked)
-    [(texts, plan)] = both_plans(asked, roster)
-    swapped = swap.swap_of(asked, roster, texts, plan, words)
+def run_swap(options: SwapOptions, given: Given, roster: Program) -> int:
+    if options.out == "-":
+        message = "--out -: the roster goes into a file, and what the swap costs to standard output; give the name of a file"
+        raise DeskError(message, 2)
+    words, files = swap.days_and_files(options.day, options.common.files)
+    [(texts, plan)] = both_plans(given.with_files(files), roster)
+    nurses = swap.nurses_in(plan, options.nurse, options.other_nurse)
+    swapped = swap.Swap(roster, texts, plan, nurses, days_in(words, plan.case.weeks, given.start), given.first_week)
     write(swapped.lines())
-    refused = swap.refused(swapped, asked.out)
+    refused = swap.refused(swapped, options.out)
     if refused:
         raise refused
-    if asked.out:
-        swapped.write(asked.out)
+    if options.out:
+        swapped.write(options.out)
     return 0
 
 
-def run_history(asked: argparse.Namespace, roster: Program) -> int:
-    [(_, plan)] = both_plans(asked, roster)
-    write_bytes(asked.out, next_month.history_text(plan, asked.carry))
+def run_history(options: HistoryOptions, given: Given, roster: Program) -> int:
+    [(_, plan)] = both_plans(given, roster)
+    write_bytes(options.out, next_month.history_text(plan, options.carry))
     return 0
 
 
-def run_next(asked: argparse.Namespace, roster: Program) -> int:
-    if asked.asks:
+def run_next(options: NextOptions, given: Given, roster: Program) -> int:
+    if options.common.asks:
         raise DeskError("next: --asks is of this month, and the next one has this month's needs; leave it out", 2)
-    [(texts, plan)] = both_plans(asked, roster)
-    files = next_month.next_files(plan, texts, asked.folder, asked.carry)
-    check_names(asked, "FOLDER", [name for name, _ in files])
-    make_folder(asked.folder)
+    [(texts, plan)] = both_plans(given, roster)
+    files = next_month.next_files(plan, texts, options.folder, options.carry)
+    check_names(options, "FOLDER", [name for name, _ in files])
+    make_folder(options.folder)
     next_month.write_next(roster, plan, files)
     write(shown(name) for name, _ in files)
     return 0
 
 
-def run_ics(asked: argparse.Namespace, roster: Program) -> int:
-    if asked.start is None:
+def run_ics(options: IcsOptions, given: Given, roster: Program) -> int:
+    start = given.start
+    if start is None:
         raise DeskError("ics: --start names the Monday of week 0, as 2026-11-02", 2)
-    if asked.all and asked.nurse is not None:
+    nurse, folder = options.nurse, options.all
+    if folder and nurse is not None:
         # (the word is the first of the files)
-        asked.files.insert(0, asked.nurse)
-    elif not asked.all and asked.nurse is None:
+        given, nurse = given.with_files([nurse, *options.common.files]), None
+    elif not folder and nurse is None:
         raise DeskError("ics: name a nurse, or by --all a folder for the calendars of all nurses", 2)
-    if asked.all and asked.out:
+    if folder and options.out:
         raise DeskError("ics: --all names a folder and --out a file; give one of the two", 2)
-    [(_, plan)] = both_plans(asked, roster)
-    times = dict(calendar_file.times_in(it, plan) for it in asked.time or ())
-    calendar = calendar_file.Calendar(plan, asked.start, times, page.now())
-    if not asked.all:
-        write_bytes(asked.out, calendar.of_nurse(nurse_in(plan, asked.nurse)))
-        return 0
-    names = calendar_file.file_names(plan, asked.all)
-    check_names(asked, "--all", names)
-    make_folder(asked.all)
-    for number, name in enumerate(names):
-        replacing.replace_text(name, calendar.of_nurse(number))
-    write(shown(it) for it in names)
+    [(_, plan)] = both_plans(given, roster)
+    times = dict(calendar_file.times_in(word, plan) for word in options.time or ())
+    calendar = calendar_file.Calendar(plan, start, times, page.now())
+    if nurse is not None:
+        write_bytes(options.out, calendar.of_nurse(nurse_in(plan, nurse)))
+    elif folder:
+        names = calendar_file.file_names(plan, folder)
+        check_names(given.options, "--all", names)
+        make_folder(folder)
+        for number, name in enumerate(names):
+            replacing.replace_text(name, calendar.of_nurse(number))
+        write(map(shown, names))
     return 0
 
 
@@ -265,38 +288,34 @@ def make_folder(name: str) -> None:
         raise DeskError(f"{shown(name)}: {why.strerror}; give another folder", 3) from None
 
 
-def run_split(asked: argparse.Namespace, roster: Program) -> int:
-    pairs = both_plans(asked, roster)
+def run_split(options: SplitOptions, given: Given, roster: Program) -> int:
+    pairs = both_plans(given, roster)
     (texts, plan), (chosen, _) = pairs[0], pairs[-1]
     before = texts.before(plan.solutions_offset(), [])
-    names = split.names(asked.prefix, plan.case.weeks)
-    check_prefix(asked, names, SOLUTIONS)
-    split.split(roster, chosen, before, names, asked.crlf)
-    write(shown(it) for it in names)
+    names = split.names(options.prefix, plan.case.weeks)
+    check_names(options, "PREFIX", names, SOLUTIONS)
+    split.split(roster, chosen, before, names, options.crlf)
+    write(map(shown, names))
     return 0
 
 
-def run_weeks(asked: argparse.Namespace, roster: Program) -> int:
-    texts = texts_of(asked)
+def run_weeks(options: WeeksOptions, given: Given, roster: Program) -> int:
+    texts = texts_of(options)
     plan = program.taken(roster, texts)
-    names, scenario = split.names(asked.prefix, plan.case.weeks), f"{asked.prefix}-scenario.txt"
-    wanted = told_asks(asked, plan)
-    check_prefix(asked, [*names, *([scenario] if wanted and wanted.gone else [])])
+    names, scenario = split.names(options.prefix, plan.case.weeks), f"{options.prefix}-scenario.txt"
+    wanted = reported_asks(given, plan)
+    check_names(options, "PREFIX", [*names, *([scenario] if wanted and wanted.gone else [])])
     if not wanted:
         raise DeskError("weeks: --asks names the text of absences and pins", 2)
-    write(shown(it) for it in asked_texts.write_weeks(roster, wanted, texts, names, scenario))
+    write(map(shown, asked_texts.write_weeks(roster, wanted, texts, names, scenario)))
     return 0
 
 
-def check_prefix(asked: argparse.Namespace, names: list[str], but: str = "") -> None:
-    check_names(asked, "PREFIX", names, but)
-
-
-def check_names(asked: argparse.Namespace, named: str, names: list[str], but: str = "") -> None:
+def check_names(options: Options, named: str, names: list[str], but: str = "") -> None:
     """Refuses to write what is read, but for such files, and to replace files unless that is asked for. `named` is what gives the
     names."""
-    read = [it for it in files_read(asked) if it[0] != but]
-    outputs.refuse_inputs([(named, it) for it in names], read)
-    there = [shown(it) for it in names if os.path.lexists(it)]
-    if there and not asked.force:
+    read = [file for file in files_read(options) if file[0] != but]
+    outputs.refuse_inputs([(named, name) for name in names], read)
+    there = [shown(name) for name in names if os.path.lexists(name)]
+    if there and not options.common.force:
         raise DeskError(f"{', '.join(there)}: would be replaced; give another {named}, or --force to replace", 2)

@@ -1,14 +1,30 @@
 """What each nurse costs by rule, and each shift and skill: counted here, and compared with the program's own numbers."""
 import collections
+import collections.abc
+import itertools
 
-from reckoning import SATURDAY, SUNDAY, cover, violations
-
-from desk_lib.model import Plan, Row
+from desk_lib.case import SATURDAY, SUNDAY, Choice, Limits, Request, Row, ShiftSkill, cover_on, shift_of
+from desk_lib.model import Plan
 from desk_lib.texts import DeskError
 
 # The rules that a nurse's row is charged for.
 RULES = ["S2", "S3", "S4", "S5", "S6", "S7", "S8"]
+# What one violation of a rule costs: S1; S2, of working days and of shifts; S3; S4 and S8; S5; S6; S7.
+STAFFING, WORKING_RUN, SHIFT_RUN, OFF_RUN, REQUEST, WHOLE_WEEKEND, ASSIGNMENTS, WEEKENDS = 30, 30, 15, 30, 10, 30, 20, 30
 Shifts = dict[tuple[int, int], set[int | None]]
+
+
+def run_violations(is_kind: list[bool], before: int, limits: Limits) -> int:
+    """How many days the runs of a kind are too short or too long, together: which days are of it, and how many of it precede the
+    first day."""
+    found = max(0, limits.least - before) if before and not is_kind[0] else 0
+    for of_kind, group in itertools.groupby(range(len(is_kind)), lambda day: is_kind[day]):
+        if of_kind:
+            days = [*group]
+            length = len(days) + (before if days[0] == 0 else 0)
+            found += min(len(days), max(0, length - limits.greatest))
+            found += max(0, limits.least - length) if days[-1] != len(is_kind) - 1 else 0
+    return found
 
 
 class Costing:
@@ -18,21 +34,24 @@ class Costing:
         self.plan, self.case = plan, plan.case
         self.off, self.wished = by_day(plan.case.requests), by_day(plan.case.wishes)
         self.of_nurses = [self.of_nurse(number, row) for number, row in enumerate(plan.roster)]
-        self.covers = [cover(row[day] for row in plan.roster) for day in range(plan.days)]
-        self.of_places = {at: self.of_place(at) for at in plan.case.needs}
+        self.covers = [cover_on(plan.roster, day) for day in range(plan.days)]
+        # (S1 of each shift and skill)
+        self.staffing = {at: self.staffing_of(at) for at in plan.case.needs}
 
     def runs(self, number: int, row: Row) -> tuple[int, int]:
         """S2 and S3: runs of working days and of shifts, and runs of days off."""
         nurse = self.case.nurses[number]
         contract, past = self.case.contracts[nurse.contract], nurse.history
-        shifts = [choice and choice[0] for choice in row]
-        worked = [it is not None for it in shifts]
+        shifts = [shift_of(choice) for choice in row]
+        worked = [shift is not None for shift in shifts]
         is_after_work = past.last is not None
-        working = 30 * violations(worked, past.working if is_after_work else 0, contract.working)
-        for shift in {*shifts, past.last} - {None}:
-            before = past.of_last if past.last == shift else 0
-            working += 15 * violations([it == shift for it in shifts], before, self.case.shifts[shift].limits)
-        off = 30 * violations([not it for it in worked], 0 if is_after_work else past.off, contract.off)
+        working = WORKING_RUN * run_violations(worked, past.working if is_after_work else 0, contract.working)
+        for shift in {*shifts, past.last}:
+            if shift is not None:
+                before = past.of_last if past.last == shift else 0
+                limits = self.case.shifts[shift].limits
+                working += SHIFT_RUN * run_violations([other == shift for other in shifts], before, limits)
+        off = OFF_RUN * run_violations([not works for works in worked], 0 if is_after_work else past.off, contract.off)
         return working, off
 
     def totals(self, number: int, row: Row) -> tuple[int, int, int]:
@@ -44,48 +63,52 @@ class Costing:
         broken = sum(saturday != sunday for saturday, sunday in weekends) if contract.whole_weekends else 0
         total, least, greatest = past.assignments + sum(worked), *contract.assignments
         outside = max(0, least - total) + max(0, total - greatest)
-        return 30 * broken, 20 * outside, 30 * max(0, past.weekends + sum(map(any, weekends)) - contract.weekends)
+        surplus = max(0, past.weekends + sum(map(any, weekends)) - contract.weekends)
+        return WHOLE_WEEKEND * broken, ASSIGNMENTS * outside, WEEKENDS * surplus
 
-    def breaks_request(self, number: int, day: int, row: Row) -> bool:
-        """Whether the nurse works a shift that an off request names."""
+    def breaks_request(self, number: int, day: int, choice: Choice) -> bool:
+        """Whether a choice is a shift that an off request of the nurse names."""
         asked = self.off.get((number, day), ())
-        return row[day] is not None and (row[day][0] in asked or None in asked)
+        return choice is not None and (choice[0] in asked or None in asked)
 
-    def misses_wish(self, number: int, day: int, row: Row) -> bool:
-        """Whether a wish of the nurse to work isn't met."""
+    def misses_wish(self, number: int, day: int, choice: Choice) -> bool:
+        """Whether a choice doesn't meet a wish of the nurse to work."""
         wished = self.wished.get((number, day), ())
-        return any(row[day] is None or shift not in (None, row[day][0]) for shift in wished)
+        return any(choice is None or shift not in (None, choice[0]) for shift in wished)
+
+    def request_cost(self, number: int, day: int, choice: Choice) -> int:
+        """What a choice costs by the requests and wishes of the nurse."""
+        return REQUEST * (self.breaks_request(number, day, choice) + self.misses_wish(number, day, choice))
 
     def of_nurse(self, number: int, row: Row) -> dict[str, int]:
         days = range(self.plan.days)
-        broken = sum(self.breaks_request(number, day, row) for day in days if (number, day) in self.off)
-        missed = sum(self.misses_wish(number, day, row) for day in days if (number, day) in self.wished)
+        broken = sum(self.breaks_request(number, day, row[day]) for day in days if (number, day) in self.off)
+        missed = sum(self.misses_wish(number, day, row[day]) for day in days if (number, day) in self.wished)
         (working, off), (whole, assignments, weekends) = self.runs(number, row), self.totals(number, row)
-        return dict(zip(RULES, (working, off, 10 * broken, whole, assignments, weekends, 10 * missed)))
+        return dict(zip(RULES, (working, off, REQUEST * broken, whole, assignments, weekends, REQUEST * missed)))
 
-    def of_place(self, at: tuple[int, int]) -> int:
+    def staffing_of(self, at: ShiftSkill) -> int:
         """S1 of a shift and skill."""
-        return 30 * sum(max(0, need.greatest - covers[at]) for need, covers in zip(self.case.needs[at], self.covers))
+        return STAFFING * sum(max(0, need.greatest - covers[at]) for need, covers in zip(self.case.needs[at], self.covers))
 
     def totals_by_rule(self) -> dict[str, int]:
-        found = {"S1": sum(self.of_places.values())}
-        found |= {rule: sum(it[rule] for it in self.of_nurses) for rule in RULES}
+        found = {"S1": sum(self.staffing.values())}
+        found |= {rule: sum(costs[rule] for costs in self.of_nurses) for rule in RULES}
         return found | {"total": sum(found.values())}
 
+    @property
+    def penalty(self) -> int:
+        return self.totals_by_rule()["total"]
+
     def compare(self, program: dict[str, int]) -> None:
-        """Stops where the program counts otherwise."""
+        """Stops if the program counts otherwise."""
         for rule, mine in self.totals_by_rule().items():
             if program.get(rule) != mine:
-                raise DeskError(
-                    (
-                        f"{rule} is {mine} by the desk and {program.get(rule)} by 'roster cost'; nothing is shown. This is a"
-                        " fault of the desk"
-                    ),
-                    3,
-                )
+                message = f"{rule} is {mine} by the desk and {program.get(rule)} by 'roster cost'; nothing is shown"
+                raise DeskError(f"{message}. This is a fault of the desk", 3)
 
 
-def by_day(requests: set[tuple[int, int | None, int]]) -> Shifts:
+def by_day(requests: collections.abc.Iterable[Request]) -> Shifts:
     """The shifts that requests name, by the nurse and the day."""
     found: Shifts = collections.defaultdict(set)
     for nurse, shift, day in requests:

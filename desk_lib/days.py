@@ -1,5 +1,5 @@
 """Days as words name them, everywhere in the desk: the week and the weekday, as 0:Mon; all from one day to another, as 0:Mon..0:Wed;
-several one after another. Where the first Monday is known, a day may be its date."""
+several one after another. If the first Monday is known, a day may be its date."""
 import collections.abc
 import datetime
 import re
@@ -16,7 +16,8 @@ def day_name(day: int) -> str:
     return DAYS[day % 7].decode()
 
 
-def day_place(day: int) -> str:
+def day_text(day: int) -> str:
+    """A day in words."""
     return f"week {day // 7} {day_name(day)}"
 
 
@@ -44,21 +45,21 @@ def monday_in(word: str) -> datetime.date:
 
 def is_day(word: bytes) -> bool:
     """Whether a word has the form of days."""
-    return all(DAY.fullmatch(it) or DATE.fullmatch(it) for it in word.split(TO))
+    return all(DAY.fullmatch(end) or DATE.fullmatch(end) for end in word.split(TO))
 
 
 def day_of(word: bytes, start: datetime.date | None) -> int:
     """The day that a word names, whether the scenario has it or not."""
-    told = DAY.fullmatch(word)
-    if told and told[2] in DAY_OF:
-        return 7 * int(told[1]) + DAY_OF[told[2]]
+    match = DAY.fullmatch(word)
+    if match and match[2] in DAY_OF:
+        return 7 * int(match[1]) + DAY_OF[match[2]]
     if start and DATE.fullmatch(word):
         return (date_in(shown(word)) - start).days
     raise DeskError(f"'{shown(word)}' stands here, and a day is due, as 0:Mon", 2)
 
 
 def day_in(word: bytes, weeks: int, start: datetime.date | None = None) -> int:
-    """The day of so many weeks that a word names."""
+    """The day of this number of weeks that a word names."""
     day = day_of(word, start)
     if not 0 <= day < 7 * weeks:
         raise DeskError(f"'{shown(word)}': the scenario has {plural(weeks, 'week')}, and they count from 0", 2)

@@ -5,7 +5,7 @@ import re
 
 from desk_lib import outputs
 from desk_lib.findings import Finding, of_words
-from desk_lib.grammar import NONE, Part
+from desk_lib.grammar import NONE, Line, Part
 from desk_lib.model import Plan
 from desk_lib.texts import Text, Texts, plural, shown
 
@@ -23,11 +23,11 @@ class Doubts:
     def findings(self) -> list[Finding]:
         """All of them, in the order of the texts."""
         found = [*self.limits(), *self.needs(), *self.lacking_needs(), *self.histories(), *self.weeks(), *self.order()]
-        return sorted(found, key=lambda it: it.offset)
+        return sorted(found, key=lambda finding: finding.offset)
 
-    def warning(self, first: int, last: int, told: str) -> Finding:
+    def warning(self, first: int, last: int, message: str) -> Finding:
         """A warning of the words from one to another."""
-        return of_words(self.words, first, last, f"warning: {told}")
+        return of_words(self.words, first, last, f"warning: {message}")
 
     def name(self, at: int) -> str:
         return shown(self.words.words[at])
@@ -51,29 +51,31 @@ class Doubts:
                 for day, pair in enumerate(pairs):
                     if pair.least > pair.greatest:
                         at = first + 2 + 5 * day
-                        told = f"the minimum, {pair.least}, is above the optimum, {pair.greatest}"
-                        yield self.warning(at, at + 4, f"{self.name(first)} {self.name(skill)}: {told}")
+                        message = f"the minimum, {pair.least}, is above the optimum, {pair.greatest}"
+                        yield self.warning(at, at + 4, f"{self.name(first)} {self.name(skill)}: {message}")
 
     def lacking_needs(self) -> collections.abc.Iterator[Finding]:
         """Shifts and skills that weeks have no line of, while others need them."""
-        lines = [{self.place(line): line for line in part[b"REQUIREMENTS"].lines} for part in self.bundle.weeks]
-        for place in sorted({it for of_week in lines for it in of_week}):
-            lacking = [str(week) for week, of_week in enumerate(lines) if place not in of_week]
-            needed = next((it[place] for it in lines if place in it and any(map(any, it[place][2]))), None)
+        lines = [{self.names(line): line for line in part[b"REQUIREMENTS"].lines} for part in self.bundle.weeks]
+        for names in sorted({names for of_week in lines for names in of_week}):
+            lacking = [str(week) for week, of_week in enumerate(lines) if names not in of_week]
+            there = [of_week[names] for of_week in lines if names in of_week]
+            needed = next((line for line in there if any(map(any, line[2]))), None)
             if lacking and needed:
                 weeks = f"weeks {', '.join(lacking)} have" if lacking[1:] else f"week {lacking[0]} has"
-                told = f"{self.name(needed[0])} {self.name(needed[1])} is needed here, and {weeks} no line of it"
-                yield self.warning(needed[0], needed[1], told)
+                message = f"{self.name(needed[0])} {self.name(needed[1])} is needed here, and {weeks} no line of it"
+                yield self.warning(needed[0], needed[1], message)
 
-    def place(self, line: tuple) -> tuple[bytes, bytes]:
+    def names(self, line: Line) -> tuple[bytes, bytes]:
+        """The names of the shift and the skill of a requirement."""
         return self.words.words[line[0]], self.words.words[line[1]]
 
     def histories(self) -> collections.abc.Iterator[Finding]:
         """Lines of the history that contradict themselves."""
         for first, *numbers in self.bundle.history[b"NURSE_HISTORY"].lines:
-            told = self.contradiction(*numbers)
-            if told:
-                yield self.warning(first, first + 6, f"{self.name(first)}: {told}")
+            message = self.contradiction(*numbers)
+            if message:
+                yield self.warning(first, first + 6, f"{self.name(first)}: {message}")
 
     def contradiction(self, assignments: int, weekends: int, last: int, of_last: int, working: int, off: int) -> str:
         """What a line of the history says that can't be, if anything."""
@@ -90,17 +92,17 @@ class Doubts:
         return f"the last shift is {word}, and yet {plural(off, 'day')} off in a row" if off else ""
 
     def weeks(self) -> collections.abc.Iterator[Finding]:
-        """Weeks that stand twice: the same file, or the same words where these have requests."""
+        """Weeks that stand twice: the same file, or the same words if these have requests."""
         seen: dict[object, int] = {}
         for week, part in enumerate(self.bundle.weeks):
             head = part[b"WEEK_DATA"]
-            same = min((seen.setdefault(it, week) for it in self.keys(week, part)), default=week)
+            same = min((seen.setdefault(key, week) for key in self.keys(week, part)), default=week)
             if same != week:
                 yield self.warning(head.at, head.at + 1, f"week {week} is the same as week {same}")
 
     def keys(self, week: int, part: Part) -> list[object]:
-        """What two weeks have in common that are the same: their file, or their words where there are requests."""
-        heads = [it[b"WEEK_DATA"].at for it in self.bundle.weeks] + [self.bundle.solutions[0][b"SOLUTION"].at]
+        """What two weeks have in common that are the same: their file, or their words if there are requests."""
+        heads = [week_part[b"WEEK_DATA"].at for week_part in self.bundle.weeks] + [self.bundle.solutions[0][b"SOLUTION"].at]
         said = tuple(self.words.words[heads[week] : heads[week + 1]])
         file = outputs.identity(self.text_of(part).name) if len(self.week_files()) == len(self.bundle.weeks) else None
         return [*[said] * bool(part[b"SHIFT_OFF_REQUESTS"].count), *[file] * (file is not None)]
@@ -111,7 +113,7 @@ class Doubts:
 
     def week_files(self) -> list[int]:
         """The numbers of the files in which weeks stand, each once."""
-        at = [self.texts.index(self.words.offset(it[b"WEEK_DATA"].at)) for it in self.bundle.weeks]
+        at = [self.texts.index(self.words.offset(part[b"WEEK_DATA"].at)) for part in self.bundle.weeks]
         return sorted({*at})
 
     def order(self) -> collections.abc.Iterator[Finding]:
@@ -119,14 +121,14 @@ class Doubts:
         if len(self.week_files()) < len(self.bundle.weeks):
             return
         names = [os.path.basename(self.text_of(part).name) for part in self.bundle.weeks]
-        numbers = [NUMBER.findall(it) for it in names]
-        if len({NUMBER.sub("0", it) for it in names}) > 1 or not numbers[0]:
+        numbers = [NUMBER.findall(name) for name in names]
+        if len({NUMBER.sub("0", name) for name in names}) > 1 or not numbers[0]:
             return
         for column in zip(*numbers):
-            values = [int(it) for it in column]
+            values = [int(word) for word in column]
             late = next((at for at in range(1, len(values)) if values[at] < values[at - 1]), None)
             if late is not None:
                 head = self.bundle.weeks[late][b"WEEK_DATA"]
-                told = f"{shown(names[late])} stands after {shown(names[late - 1])}, as week {late}; name the weeks in their order"
-                yield self.warning(head.at, head.at, told)
+                message = f"{shown(names[late])} stands after {shown(names[late - 1])}, as week {late}; name the weeks in their order"
+                yield self.warning(head.at, head.at, message)
                 return

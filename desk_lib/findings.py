@@ -1,29 +1,32 @@
 """What is wrong with texts: a place and a sentence for each, and the words that are nearest to an unknown one."""
 import collections.abc
 import dataclasses
-import difflib
 import functools
 
 from desk_lib.grammar import Words
 from desk_lib.texts import DeskError, Place, shown
 
 
+# A file and the number of a line in it.
+LineKey = tuple[str, int]
+
+
 @dataclasses.dataclass(frozen=True)
 class Finding:
-    """A fault: the byte of the joined text where it stands, or -1 where it has no place; the place, and what is wrong."""
+    """A fault: the byte of the joined text where it stands, or -1 if it has no place; the place, and what is wrong."""
 
     offset: int
     place: Place | None
     message: str
 
     def lines(self) -> list[str]:
-        """The lines that tell it."""
+        """The lines that report it."""
         if self.place is None:
             return [self.message]
         head = f"{self.place}: {self.message}"
         return [head, *self.place.lines()] if self.place.text.strip() else [head]
 
-    def line_key(self) -> tuple[str, int] | None:
+    def line_key(self) -> LineKey | None:
         return (self.place.file, self.place.line) if self.place else None
 
 
@@ -37,8 +40,12 @@ def of_words(words: Words, first: int, last: int, message: str) -> Finding:
 @functools.lru_cache(maxsize=10_000)
 def nearest_names(word: bytes, known: frozenset[bytes] | tuple[bytes, ...]) -> list[str]:
     """The known words most like this one, at most three, capitals and small letters being the same."""
-    folded = {shown(it).casefold(): shown(it) for it in sorted(known, reverse=True)}
-    return [folded[it] for it in difflib.get_close_matches(shown(word).casefold(), [*folded], n=3, cutoff=0.6)]
+    # (a start of the desk is the quicker without this import)
+    import difflib
+
+    folded = {shown(name).casefold(): shown(name) for name in sorted(known, reverse=True)}
+    found = difflib.get_close_matches(shown(word).casefold(), [*folded], n=3, cutoff=0.6)
+    return [folded[name] for name in found]
 
 
 def nearest(word: bytes, known: collections.abc.Iterable[bytes]) -> str:
@@ -56,5 +63,5 @@ def numbered(what: str, word: bytes, names: list[bytes]) -> int:
 
 
 def also(count: int) -> str:
-    """A clause for the other places of a fault that is told once."""
+    """A clause for the other places of a fault that is reported once."""
     return "" if not count else " (so does 1 more line)" if count == 1 else f" (so do {count} more lines)"

@@ -8,17 +8,17 @@ for one day, and a wish count as ever.
 """
 import itertools
 
-from reckoning import SATURDAY, SUNDAY, Contract
-
+from desk_lib.case import SATURDAY, SUNDAY, Contract, Limits
 from desk_lib.grammar import SMALL
 from desk_lib.model import Plan
 from desk_lib.texts import Edit
 
 
 def longest_run(days: set[int], before: int) -> int:
-    """The most days one after the other, where so many more stand before the first day of all."""
-    groups = itertools.groupby(sorted(days), key=lambda day, count=itertools.count(): day - next(count))
-    runs = [[*run] for _, run in groups]
+    """The most days one after the other, if this number of days more stand before the first day of all."""
+    # (in a run, days and their numbers in order are equally far apart)
+    groups = itertools.groupby(enumerate(sorted(days)), key=lambda numbered: numbered[1] - numbered[0])
+    runs = [[day for _, day in run] for _, run in groups]
     return max(len(run) + before * (run[0] == 0) for run in runs)
 
 
@@ -32,15 +32,15 @@ def contract_there(plan: Plan, number: int, days: set[int]) -> Contract:
     weekends = sum(not {7 * week + SATURDAY, 7 * week + SUNDAY} <= days for week in weeks)
     least, greatest = contract.assignments
     return contract._replace(
-        assignments=(least * there // plan.days, -(-greatest * there // plan.days)),
-        off=(contract.off.least, min(SMALL, contract.off.greatest + longest)),
+        assignments=Limits(least * there // plan.days, -(-greatest * there // plan.days)),
+        off=Limits(contract.off.least, min(SMALL, contract.off.greatest + longest)),
         weekends=-(-contract.weekends * weekends // len(weeks)),
     )
 
 
 def contract_line(name: bytes, contract: Contract) -> bytes:
     """The line of a contract in a scenario."""
-    pairs = b" ".join(b"(%d,%d)" % (*it,) for it in (contract.assignments, contract.working, contract.off))
+    pairs = b" ".join(b"(%d,%d)" % (*limits,) for limits in (contract.assignments, contract.working, contract.off))
     return b"%s %s %d %d" % (name, pairs, contract.weekends, contract.whole_weekends)
 
 
@@ -48,13 +48,13 @@ def edits(plan: Plan, gone: dict[int, set[int]], end: bytes) -> list[Edit]:
     """What gives these nurses contracts of their own, each line after `end`: the count of contracts, the lines after the last
     one, and the contracts' names in the lines of the nurses."""
     words, scenario = plan.words, plan.bundle.scenario
-    section, taken = scenario[b"CONTRACTS"], {words.words[it[0]] for it in scenario[b"CONTRACTS"].lines}
+    section, taken = scenario[b"CONTRACTS"], {words.words[line[0]] for line in scenario[b"CONTRACTS"].lines}
     count = b"%d" % (section.count + len(gone))
     lines, found = [], [(words.offset(section.at + 2), len(words.words[section.at + 2]), count)]
     for number, days in sorted(gone.items()):
         _, at, _ = scenario[b"NURSES"].lines[number]
         stem = words.words[at] + b"-" + plan.case.nurses[number].name
-        name = next(it for it in (stem + b"-" * more for more in itertools.count()) if it not in taken)
+        name = next(name for name in (stem + b"-" * more for more in itertools.count()) if name not in taken)
         taken.add(name)
         lines.append(end + contract_line(name, contract_there(plan, number, days)))
         found.append((words.offset(at), len(words.words[at]), name))

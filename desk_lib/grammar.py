@@ -6,9 +6,9 @@ import collections.abc
 import dataclasses
 import functools
 import re
+import typing
 
-from reckoning import Contract, Limits
-
+from desk_lib.case import Contract, Limits
 from desk_lib.texts import Place, Texts
 
 WORD = re.compile(rb"[(),=]|[^ \t\r\n(),=]+")
@@ -31,7 +31,7 @@ class Fault(Exception):
         super().__init__(due)
         self.at, self.due, self.greatest = at, due, greatest
 
-    def told(self) -> str:
+    def message(self) -> str:
         """What the program says of it, after the line's number."""
         if self.greatest is not None:
             return "number out of range"
@@ -42,13 +42,13 @@ class Words:
     """The words of texts. Places are found when the first is asked for."""
 
     def __init__(self, texts: Texts, data: bytes | None = None):
-        """The words of the data, which is the joined text where it isn't given, and else as long as that."""
+        """The words of the data, which is the joined text if it isn't given, and else as long as that."""
         self.texts, self.data = texts, texts.joined if data is None else data
         self.words: list[bytes] = WORD.findall(self.data)
 
     @functools.cached_property
     def starts(self) -> list[int]:
-        return [it.start() for it in WORD.finditer(self.data)]
+        return [match.start() for match in WORD.finditer(self.data)]
 
     def offset(self, at: int) -> int:
         return self.starts[at] if at < len(self.words) else len(self.data)
@@ -117,8 +117,8 @@ class Cursor:
         return self.peek() == keyword and self.peek(1) == b"="
 
 
-# A line of a section: the number of its first word, and what it says.
-Line = tuple
+# A line of a section: the number of its first word, and what it says, which differs by section.
+Line = tuple[typing.Any, ...]
 
 
 @dataclasses.dataclass
@@ -128,7 +128,7 @@ class Section:
     keyword: str
     at: int
     count: int = 0
-    lines: list = dataclasses.field(default_factory=list)
+    lines: list[Line] = dataclasses.field(default_factory=list)
 
 
 Reader = collections.abc.Callable[[Cursor, Section], None]
@@ -146,7 +146,7 @@ def counted(keyword: str, line: collections.abc.Callable[[Cursor], Line]) -> Rea
 
 
 def until(keyword: str, next_keyword: bytes, line: collections.abc.Callable[[Cursor], Line]) -> Reader:
-    """Reads a section whose lines end where another section begins."""
+    """Reads a section whose lines end at the beginning of another section."""
 
     def read(cursor: Cursor, section: Section) -> None:
         cursor.word(keyword)
@@ -203,7 +203,7 @@ def history_line(cursor: Cursor) -> Line:
 
 
 def history_lines(nurses: int | None) -> Reader:
-    """Reads the lines of so many nurses, or as many as there are up to the end."""
+    """Reads the lines of that many nurses, or as many as there are up to the end."""
 
     def read(cursor: Cursor, section: Section) -> None:
         cursor.word("NURSE_HISTORY")

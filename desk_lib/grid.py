@@ -3,6 +3,7 @@ import os
 import shutil
 import sys
 
+from desk_lib.case import ShiftSkill
 from desk_lib.grammar import DAYS
 from desk_lib.sheet import Cell, Cover, Sheet
 from desk_lib.texts import cut, plural, shown
@@ -14,7 +15,7 @@ CHANGED, WRONG, DIM, BOLD = "1;4", "1;31", "2", "1"
 
 
 class Paint:
-    """Puts colours around texts, where there are any."""
+    """Puts colours around texts, if there are any."""
 
     def __init__(self, is_on: bool):
         self.is_on = is_on
@@ -41,10 +42,10 @@ class Grid:
         numbers = [
             str(cover.have) + cover.mark()
             for week in sheet.weeks
-            for at in sheet.places()
+            for at in sheet.needed()
             for cover in sheet.covers(at, week)
         ]
-        ranges = [span(cover) for week in sheet.weeks for at in sheet.places() for cover in sheet.covers(at, week)]
+        ranges = [span(cover) for week in sheet.weeks for at in sheet.needed() for cover in sheet.covers(at, week)]
         marks = max(1, *(len(self.mark(row, day)) for row in sheet.rows for day in range(len(row))))
         self.day = 1 + max([1 + marks + with_skills, *map(len, numbers), *map(len, ranges)])
         self.at_once = max(1, (columns - NAME) // (GAP + 7 * self.day))
@@ -55,8 +56,8 @@ class Grid:
             weeks = self.sheet.weeks[first : first + self.at_once]
             covers = self.covers(weeks)
             lines += [*self.heads(weeks), *self.nurses(weeks), "", *covers, *[""] * bool(covers)]
-        told = self.sheet.told_breaches()
-        return lines + self.legend() + [*[""] * bool(told), *told]
+        broken = self.sheet.breach_lines()
+        return lines + self.legend() + [*[""] * bool(broken), *broken]
 
     def line(self, name: str, weeks: list[list[str]]) -> str:
         """A line of cells, each as wide as a day."""
@@ -67,14 +68,14 @@ class Grid:
         return self.paint(text, code) + " " * (self.day - len(text))
 
     def heads(self, weeks: range) -> list[str]:
-        titles = [", ".join(filter(None, [f"week {it}", self.sheet.frozen_part(it)])) for it in weeks]
-        days = [self.padded(it.decode()[:2], BOLD if number > 4 else "") for number, it in enumerate(DAYS)]
-        return [self.line("", [[cut(it, 7 * self.day)] for it in titles]), self.line("", [days] * len(weeks))]
+        titles = [", ".join(filter(None, [f"week {week}", self.sheet.frozen_part(week)])) for week in weeks]
+        days = [self.padded(day.decode()[:2], BOLD if number > 4 else "") for number, day in enumerate(DAYS)]
+        return [self.line("", [[cut(title, 7 * self.day)] for title in titles]), self.line("", [days] * len(weeks))]
 
     def nurses(self, weeks: range) -> list[str]:
         rows = zip(self.sheet.case.nurses, self.sheet.rows)
         return [
-            self.line(shown(nurse.name), [[self.cell(row, day) for day in range(7 * it, 7 * it + 7)] for it in weeks])
+            self.line(shown(nurse.name), [[self.cell(row, day) for day in range(7 * week, 7 * week + 7)] for week in weeks])
             for nurse, row in rows
         ]
 
@@ -86,7 +87,7 @@ class Grid:
         return mark + "=" * self.sheet.is_fixed(cell, day)
 
     def cell(self, row: list[Cell], day: int) -> str:
-        """The shift's letter, that of the skill where it is asked for, and a mark."""
+        """The shift's letter, that of the skill if it is asked for, and a mark."""
         cell, mark = row[day], self.mark(row, day)
         if cell.choice is None:
             return self.padded(("x" if cell.is_absent else ".") + mark, CHANGED if cell.is_changed else "")
@@ -97,31 +98,31 @@ class Grid:
     def covers(self, weeks: range) -> list[str]:
         """Two lines for each shift and skill: how many nurses there are, and the minimum and optimum."""
         lines = []
-        for at in self.sheet.places():
+        for at in self.sheet.needed():
             covers = [self.sheet.covers(at, week) for week in weeks]
-            counts = [[self.padded(count(it), WRONG if it.mark() else "") for it in week] for week in covers]
-            ranges = [[self.padded(span(it), DIM) for it in week] for week in covers]
-            shift, skill = (shown(it) for it in self.names(at))
+            counts = [[self.padded(count(cover), WRONG if cover.mark() else "") for cover in week] for week in covers]
+            ranges = [[self.padded(span(cover), DIM) for cover in week] for week in covers]
+            shift, skill = (shown(name) for name in self.names(at))
             lines += [self.line(shift, counts), self.line(f"  {skill}", ranges)]
         return lines
 
-    def names(self, at: tuple[int, int]) -> tuple[bytes, bytes]:
+    def names(self, at: ShiftSkill) -> tuple[bytes, bytes]:
         return self.sheet.case.shifts[at[0]].name, self.sheet.case.skills[at[1]]
 
     def legend(self) -> list[str]:
         sheet = self.sheet
         shifts = [
-            f"{self.paint(letter, code)} {shown(it.name)}"
-            for letter, code, it in zip(sheet.shift_letters, SHIFT_COLOURS, sheet.case.shifts)
+            f"{self.paint(letter, code)} {shown(shift.name)}"
+            for letter, code, shift in zip(sheet.shift_letters, SHIFT_COLOURS, sheet.case.shifts)
         ]
         lines = [f"{'  '.join(shifts)}  . off{'  x absent' if sheet.case.absences else ''}"]
         if self.with_skills:
-            lines.append("  ".join(f"{letter} {shown(it)}" for letter, it in zip(sheet.skill_letters, sheet.case.skills)))
+            lines.append("  ".join(f"{letter} {shown(skill)}" for letter, skill in zip(sheet.skill_letters, sheet.case.skills)))
         changed = f" ({plural(sheet.changed(), 'day')})" if sheet.is_compared else ""
         broken = ", !! a broken hard rule" if sheet.broken else ""
-        fixed = ", = fixed" if any(sheet.is_fixed(it, day) for row in sheet.rows for day, it in enumerate(row)) else ""
+        fixed = ", = fixed" if any(sheet.is_fixed(cell, day) for row in sheet.rows for day, cell in enumerate(row)) else ""
         lines.append(f"after a day: * changed{changed}, ! a request that isn't met, # both{broken}{fixed}")
-        if sheet.places():
+        if sheet.needed():
             lines.append(
                 "by shift and skill: how many are there (- below the optimum, ! below the minimum), then minimum-optimum"
             )
@@ -129,12 +130,12 @@ class Grid:
 
 
 def count(cover: Cover) -> str:
-    """How many are there, and the mark of too few; a point where none is needed nor there."""
+    """How many are there, and the mark of too few; a point if none is needed nor there."""
     return f"{cover.have}{cover.mark()}" if cover.have or cover.least or cover.optimum else "."
 
 
 def span(cover: Cover) -> str:
-    """The minimum and the optimum, where some are needed."""
+    """The minimum and the optimum, if some are needed."""
     return f"{cover.least}-{cover.optimum}" if cover.least or cover.optimum else ""
 
 

@@ -1,7 +1,7 @@
 """What can't be seen in an editor and keeps the program from reading a text, or stands there as part of a word."""
 import re
 
-from desk_lib.findings import Finding, also
+from desk_lib.findings import Finding, LineKey, also
 from desk_lib.grammar import WORD
 from desk_lib.table_in import begin_of, table_in
 from desk_lib.texts import UTF8_MARK, Text, Texts
@@ -9,7 +9,7 @@ from desk_lib.texts import UTF8_MARK, Text, Texts
 UTF16_MARKS = (b"\xff\xfe", b"\xfe\xff")
 SAVE_AS = "save it as UTF-8 without a byte order mark"
 QUOTES = b'"|\xe2\x80[\x98-\x9f]|\xc2\xab|\xc2\xbb'
-SEPARATORS = [bytes([it]) for it in b" \t\r\n(),="]
+SEPARATORS = [bytes([letter]) for letter in b" \t\r\n(),="]
 REST = re.compile(rb"[^ \t\r\n(),=]*")
 # What stands there, what is said of it, and whether it counts in texts that aren't UTF-8 alone.
 SIGNS = [
@@ -58,7 +58,7 @@ def is_utf8(data: bytes) -> bool:
 
 
 def is_utf16(data: bytes) -> bool:
-    """Whether the file has a mark of UTF-16, or zeros in the place of every other byte."""
+    """Whether the file has a mark of UTF-16, or zeros for every other byte."""
     halves = [data[at::2] for at in (0, 1)]
     least, most = sorted(half.count(0) / max(1, len(half)) for half in halves)
     return data.startswith(UTF16_MARKS) or least < 0.05 and most > 0.5
@@ -71,12 +71,12 @@ def whole_file(text: Text) -> str:
     if not text.data.strip():
         return "the file has blanks and line ends alone"
     begin = text.data.removeprefix(UTF8_MARK).lstrip()
-    kind = next((told for it, told in KINDS.items() if begin.startswith(it)), "")
+    kind = next((name for first, name in KINDS.items() if begin.startswith(first)), "")
     if kind:
         return f"the file is {kind}; give it as plain text, whose words docs/COMMANDS.md has under 'The input'"
     if begin_of(text):
         return (
-            "the file is a table as 'desk csv' writes it; such a one is taken in the place of all solutions, after a scenario, a"
+            "the file is a table as 'desk csv' writes it; such a one is taken instead of all solutions, after a scenario, a"
             " history and week data in which nothing is wrong"
         )
     if is_utf16(text.data):
@@ -94,8 +94,9 @@ def names_in(data: bytes) -> set[bytes]:
 
 def word_at(data: bytes, at: int) -> bytes:
     """The word to which a byte belongs, as far as it is within a thousand bytes."""
-    before = max(data.rfind(it, max(0, at - 1000), at) for it in SEPARATORS)
-    return data[max(before + 1, at - 1000) : REST.match(data, at, at + 1000).end()]
+    before = max(data.rfind(separator, max(0, at - 1000), at) for separator in SEPARATORS)
+    rest = REST.match(data, at, at + 1000)
+    return data[max(before + 1, at - 1000) : rest.end() if rest else at]
 
 
 def signs_in(text: Text, names: set[bytes]) -> list[tuple[int, int, str]]:
@@ -104,38 +105,39 @@ def signs_in(text: Text, names: set[bytes]) -> list[tuple[int, int, str]]:
     if text.data.startswith(UTF8_MARK):
         found.append((0, 3, f"the file begins with a byte order mark (bytes EF BB BF), which can't be seen; {SAVE_AS}"))
     plain = is_utf8(text.data)
-    for pattern, told, is_of_bytes in SIGNS:
+    for pattern, message, is_of_bytes in SIGNS:
         if not (is_of_bytes and plain):
-            signs = [it for it in re.finditer(pattern, text.data) if it.re.groups == 0 or it.lastindex]
-            found += [(it.start(), it.end(), told) for it in signs if it.start() or it[0] != UTF8_MARK]
-    return [it for it in found if word_at(text.data, it[0]) not in names]
+            signs = [match for match in re.finditer(pattern, text.data) if match.re.groups == 0 or match.lastindex]
+            found += [(match.start(), match.end(), message) for match in signs if match.start() or match[0] != UTF8_MARK]
+    return [sign for sign in found if word_at(text.data, sign[0]) not in names]
 
 
-def causes(texts: Texts) -> tuple[list[Finding], bytes, bool, set[tuple[str, int]]]:
-    """What is found; the joined text with blanks in the place of it; whether every file can be read as a whole; and the
-    lines in which something hides.
+def causes(texts: Texts) -> tuple[list[Finding], bytes, bool, set[LineKey]]:
+    """What is found; the joined text with blanks instead; whether every file can be read as a whole; and the lines in which something
+    hides.
 
-    A sign that stands several times in a file is told once, with how many lines more have it.
+    A sign that stands several times in a file is reported once, with how many lines more have it.
     """
     found: list[Finding] = []
-    hiding: set[tuple[str, int]] = set()
+    hiding: set[LineKey] = set()
     names = names_in(texts.joined)
     cleaned, all_read = bytearray(texts.joined), True
     for number, (start, text) in enumerate(zip(texts.starts, texts.texts)):
         table = table_in(texts.texts[: number + 1])
-        wrong = [(it.cell.at, it.cell.length, it.message) for it in table.wrong] if table else []
-        told = "" if wrong else whole_file(text)
-        if wrong or told:
-            found += [Finding(start + at, texts.place(start + at, length), it) for at, length, it in wrong or [(0, 0, told)]]
+        wrong = [(fault.cell.at, fault.cell.length, fault.message) for fault in table.wrong] if table else []
+        of_whole = "" if wrong else whole_file(text)
+        if wrong or of_whole:
+            for at, length, message in wrong or [(0, 0, of_whole)]:
+                found.append(Finding(start + at, texts.place(start + at, length), message))
             cleaned[start : start + len(text.data)] = b" " * len(text.data)
             all_read = False
             continue
         kinds: dict[str, list[tuple[int, int]]] = {}
-        for first, last, told in signs_in(text, names):
+        for first, last, message in signs_in(text, names):
             cleaned[start + first : start + last] = b" " * (last - first)
-            kinds.setdefault(told, []).append((start + first, last - first))
-        for told, signs in kinds.items():
-            places = [texts.place(*it) for it in signs]
-            found.append(Finding(signs[0][0], places[0], f"{told}{also(len({it.line for it in places}) - 1)}"))
-            hiding.update((it.file, it.line) for it in places)
+            kinds.setdefault(message, []).append((start + first, last - first))
+        for message, signs in kinds.items():
+            places = [texts.place(*sign) for sign in signs]
+            found.append(Finding(signs[0][0], places[0], f"{message}{also(len({place.line for place in places}) - 1)}"))
+            hiding.update((place.file, place.line) for place in places)
     return found, bytes(cleaned), all_read, hiding

@@ -2,18 +2,13 @@
 import collections.abc
 import dataclasses
 
-from reckoning import Case, History, Limits, Nurse, Shift, without_absent_work
-
+from desk_lib.case import Case, Choice, History, Limits, Nurse, NurseDay, Request, Roster, Shift, ShiftSkill
+from desk_lib.case import without_absent_work
 from desk_lib.grammar import ANY, DAYS, Bundle, Cursor, Fault, Part, Words, read_part
 from desk_lib.texts import Text, Texts, shown
 
-# In the place of a file, and of an option: solutions in which nobody works.
+# Instead of a file, and of an option: solutions in which nobody works.
 NO_SOLUTIONS = "no solutions"
-
-# A row has for each day the shift and the skill, or None; a roster has a row for each nurse.
-Choice = tuple[int, int] | None
-Row = list[Choice]
-Roster = list[Row]
 
 
 @dataclasses.dataclass
@@ -24,7 +19,7 @@ class Plan:
     roster: Roster
     words: Words
     bundle: Bundle
-    # (the roster of the files, where duties were put into it since)
+    # (the roster of the files, if duties were put into it since)
     of_files: Roster | None = None
 
     @property
@@ -37,7 +32,8 @@ class Plan:
         return 7 * self.case.weeks
 
     def contract_name(self, number: int) -> bytes:
-        return self.words.words[self.bundle.scenario[b"CONTRACTS"].lines[number][0]]
+        at: int = self.bundle.scenario[b"CONTRACTS"].lines[number][0]
+        return self.words.words[at]
 
     def solutions_offset(self) -> int:
         """The byte at which the first solution begins."""
@@ -58,7 +54,10 @@ class Numbers:
     def skill(self, at: int) -> int:
         return self.skills[self.words[at]]
 
-    def shift(self, at: int) -> int | None:
+    def shift(self, at: int) -> int:
+        return self.shifts[self.words[at]]
+
+    def shift_or_none(self, at: int) -> int | None:
         """The shift that a word names; None for 'Any' and 'None'."""
         return self.shifts.get(self.words[at])
 
@@ -70,17 +69,17 @@ def nurses_of(names: Numbers, bundle: Bundle) -> list[Nurse]:
     """The nurses in their order, each with the line of the history."""
     histories = {}
     for first, assignments, weekends, last, *runs in bundle.history[b"NURSE_HISTORY"].lines:
-        histories[names.nurse(first)] = History(assignments, weekends, names.shift(last), *runs)
+        histories[names.nurse(first)] = History(assignments, weekends, names.shift_or_none(last), *runs)
     found = []
     for number, (first, contract, skills) in enumerate(bundle.scenario[b"NURSES"].lines):
-        has = [names.skill(it) for it in skills]
+        has = [names.skill(skill) for skill in skills]
         found.append(Nurse(names.words[first], names.contracts[names.words[contract]], has, histories[number]))
     return found
 
 
-def needs_of(names: Numbers, weeks: list[Part]) -> dict[tuple[int, int], list[Limits]]:
+def needs_of(names: Numbers, weeks: list[Part]) -> dict[ShiftSkill, list[Limits]]:
     """For each shift and skill that a week needs, the minimum and the optimum of each day."""
-    needs: dict[tuple[int, int], list[Limits]] = {}
+    needs: dict[ShiftSkill, list[Limits]] = {}
     for week, part in enumerate(weeks):
         for shift, skill, pairs in part[b"REQUIREMENTS"].lines:
             days = needs.setdefault((names.shift(shift), names.skill(skill)), [Limits(0, 0)] * (7 * len(weeks)))
@@ -88,16 +87,17 @@ def needs_of(names: Numbers, weeks: list[Part]) -> dict[tuple[int, int], list[Li
     return dict(sorted(needs.items()))
 
 
-def requests_of(names: Numbers, weeks: list[Part], keyword: bytes) -> set[tuple[int, int | None, int]]:
+def requests_of(names: Numbers, weeks: list[Part], keyword: bytes) -> set[Request]:
     """The requests of all weeks: the nurse, the shift or None for any, and the day."""
     found = set()
     for week, part in enumerate(weeks):
         for nurse, shift, day in part[keyword].lines if keyword in part else []:
-            found.add((names.nurse(nurse), None if names.words[shift] == ANY else names.shift(shift), 7 * week + day))
+            asked = None if names.words[shift] == ANY else names.shift_or_none(shift)
+            found.add((names.nurse(nurse), asked, 7 * week + day))
     return found
 
 
-def days_of(names: Numbers, weeks: list[Part], keyword: bytes) -> set[tuple[int, int]]:
+def days_of(names: Numbers, weeks: list[Part], keyword: bytes) -> set[NurseDay]:
     """The absences of all weeks, or the fixed days: the nurse and the day."""
     lines = [(week, line) for week, part in enumerate(weeks) if keyword in part for line in part[keyword].lines]
     return {(names.nurse(nurse), 7 * week + day) for week, (nurse, day) in lines}
@@ -121,9 +121,9 @@ def plan_of(words: Words, bundle: Bundle) -> Plan:
         shifts=[Shift(word[first], limits) for first, limits in scenario[b"SHIFT_TYPES"].lines],
         skills=[word[first] for first, in scenario[b"SKILLS"].lines],
         forbidden={
-            (names.shift(first), names.shift(it))
+            (names.shift_or_none(first), names.shift_or_none(second))
             for first, others in scenario[b"FORBIDDEN_SHIFT_TYPES_SUCCESSIONS"].lines
-            for it in others
+            for second in others
         },
         contracts=[contract for _, contract in scenario[b"CONTRACTS"].lines],
         nurses=nurses_of(names, bundle),
@@ -141,30 +141,20 @@ def choice_name(case: Case, choice: Choice) -> str:
     return "off" if choice is None else f"{shown(case.shifts[choice[0]].name)} {shown(case.skills[choice[1]])}"
 
 
-def changed_days(before: Roster, after: Roster) -> int:
-    """On how many days of all nurses two rosters differ."""
-    return sum(was != now for rows in zip(before, after) for was, now in zip(*rows))
-
-
-def changed_nurses(before: Roster, after: Roster) -> int:
-    """How many nurses have another row."""
-    return sum(was != now for was, now in zip(before, after))
-
-
 def without_absent(plan: Plan) -> Roster:
     """The roster of a plan in which those who are absent don't come."""
     return without_absent_work(plan.case, plan.roster)
 
 
-def solution_pieces(case: Case, roster: Roster) -> collections.abc.Iterator[tuple[bytes, tuple[int, int] | None]]:
+def solution_pieces(case: Case, roster: Roster) -> collections.abc.Iterator[tuple[bytes, NurseDay | None]]:
     """The solutions of a roster, as the program takes them: for each week the head, and each assignment with the nurse and the
     day."""
     for week in range(case.weeks):
         lines = [
-            (b"%s %s %s %s\n" % (nurse.name, DAYS[day % 7], case.shifts[row[day][0]].name, case.skills[row[day][1]]), (number, day))
+            (b"%s %s %s %s\n" % (nurse.name, DAYS[day % 7], case.shifts[choice[0]].name, case.skills[choice[1]]), (number, day))
             for number, (nurse, row) in enumerate(zip(case.nurses, roster))
-            for day in range(7 * week, 7 * week + 7)
-            if row[day]
+            for day, choice in enumerate(row[7 * week : 7 * week + 7], 7 * week)
+            if choice
         ]
         apart = b"\n" if week else b""
         yield b"%sSOLUTION\n%d %s\n\nASSIGNMENTS = %d\n" % (apart, week, case.name, len(lines)), None
@@ -177,8 +167,8 @@ def solutions_of(case: Case, roster: Roster) -> bytes:
 
 
 def with_no_solutions(texts: Texts) -> Texts:
-    """The texts with solutions in which nobody works, where they end after the week data. Else as they are: the program tells
-    what is wrong with them."""
+    """The texts with solutions in which nobody works, if they end after the week data. Else as they are: the program says what is wrong
+    with them."""
     cursor = Cursor(Words(texts).words)
     try:
         part = read_part(cursor, "scenario")
@@ -190,5 +180,5 @@ def with_no_solutions(texts: Texts) -> Texts:
     if cursor.peek() is not None or not part[b"WEEKS"].count:
         return texts
     name = cursor.words[part[b"SCENARIO"].lines[0][0]]
-    empty = b"\n".join(b"SOLUTION\n%d %s\n\nASSIGNMENTS = 0\n" % (it, name) for it in range(part[b"WEEKS"].count))
+    empty = b"\n".join(b"SOLUTION\n%d %s\n\nASSIGNMENTS = 0\n" % (week, name) for week in range(part[b"WEEKS"].count))
     return texts.before(len(texts.joined), [Text(NO_SOLUTIONS, empty, NO_SOLUTIONS)])

@@ -3,17 +3,17 @@ import collections
 import collections.abc
 
 from desk_lib.findings import Finding, also, nearest
-from desk_lib.grammar import ANY, DAYS, NONE, Part
+from desk_lib.grammar import ANY, DAYS, NONE, Line, Part
 from desk_lib.recovery import Found, Recovery
 from desk_lib.texts import Place, shown
 
-# For so many unknown words the nearest known ones are looked for.
+# For how many unknown words the nearest known ones are looked for.
 NEAREST = 200
 Known = collections.abc.Collection[bytes]
 
 
 class Names:
-    """Looks through the parts of a recovery. A word that is wrong in the same way on several lines is told once."""
+    """Looks through the parts of a recovery. A word that is wrong in the same way on several lines is reported once."""
 
     def __init__(self, recovery: Recovery):
         self.recovery, self.words = recovery, recovery.words.words
@@ -27,19 +27,19 @@ class Names:
         for part in recovery.of_kind("week data"):
             self.of_week(part.sections)
         self.of_solutions(recovery.of_kind("solution"))
-        self.tell_unknown()
+        self.note_unknown()
 
-    def lines(self, part: Part, keyword: bytes) -> list[tuple]:
+    def lines(self, part: Part, keyword: bytes) -> list[Line]:
         return part[keyword].lines if keyword in part else []
 
     def declared(self, part: Part, keyword: bytes, what: str) -> set[bytes]:
-        """The names that a section declares; tells of those that stand twice."""
+        """The names that a section declares; notes those that stand twice."""
         found: dict[bytes, int] = {}
         for at, *_ in self.lines(part, keyword):
             word = self.words[at]
             if word in found:
                 first = self.recovery.words.place(found[word])
-                self.recovery.tell(at, f"the {what} '{shown(word)}' stands a second time; the first is in line {first.line}")
+                self.recovery.note(at, f"the {what} '{shown(word)}' stands a second time; the first is in line {first.line}")
             found.setdefault(word, at)
         return {*found, *self.recovery.broken[keyword]}
 
@@ -51,9 +51,9 @@ class Names:
                 self.unknown[key] = [], nearest(self.words[at], known) if len(self.unknown) < NEAREST else ""
             self.unknown[key][0].append(at)
 
-    def tell_unknown(self) -> None:
+    def note_unknown(self) -> None:
         for (what, word), (places, like) in self.unknown.items():
-            self.recovery.tell(places[0], f"the scenario has no {what} '{shown(word)}'{like}{also(len(places) - 1)}")
+            self.recovery.note(places[0], f"the scenario has no {what} '{shown(word)}'{like}{also(len(places) - 1)}")
 
     def of_scenario(self, part: Part) -> None:
         self.name = [self.words[line[0]] for line in self.lines(part, b"SCENARIO")]
@@ -61,7 +61,7 @@ class Names:
         self.shifts = self.declared(part, b"SHIFT_TYPES", "shift")
         for at, *_ in self.lines(part, b"SHIFT_TYPES"):
             if self.words[at] in (ANY, NONE):
-                self.recovery.tell(at, f"no shift may be named '{shown(self.words[at])}', which has a meaning of its own")
+                self.recovery.note(at, f"no shift may be named '{shown(self.words[at])}', which has a meaning of its own")
         contracts = self.declared(part, b"CONTRACTS", "contract")
         self.nurses = self.declared(part, b"NURSES", "nurse")
         self.declared(part, b"FORBIDDEN_SHIFT_TYPES_SUCCESSIONS", "line of the shift")
@@ -74,9 +74,9 @@ class Names:
                 self.look_up(at, self.skills, "skill")
 
     def check_scenario(self, at: int) -> None:
-        """Tells of a part of another scenario."""
+        """Notes a part of another scenario."""
         if self.name and self.words[at] != self.name[0]:
-            self.recovery.tell(
+            self.recovery.note(
                 at, f"this is of the scenario '{shown(self.words[at])}', and the scenario given is '{shown(self.name[0])}'"
             )
 
@@ -84,19 +84,17 @@ class Names:
         for at, name in self.lines(part, b"HISTORY"):
             self.check_scenario(name)
             if part[b"HISTORY"].count:
-                self.recovery.tell(at, f"the history is of week {part[b'HISTORY'].count}; give the one of week 0")
+                self.recovery.note(at, f"the history is of week {part[b'HISTORY'].count}; give the one of week 0")
         named = self.declared(part, b"NURSE_HISTORY", "line of the nurse")
         for at, _, _, last, *_ in self.lines(part, b"NURSE_HISTORY"):
             self.look_up(at, self.nurses, "nurse")
             self.look_up(last, {*self.shifts, NONE}, "shift")
-        lacking = sorted(shown(it) for it in self.nurses - named)
+        lacking = sorted(shown(nurse) for nurse in self.nurses - named)
         if lacking and b"NURSE_HISTORY" in part:
             more = f" and {len(lacking) - 5} more" if len(lacking) > 5 else ""
-            told = (
-                f"NURSE_HISTORY has {len(part[b'NURSE_HISTORY'].lines)} lines, and the scenario {len(self.nurses)} nurses;"
-                f" none for {', '.join(lacking[:5])}{more}"
-            )
-            self.recovery.tell(part[b"NURSE_HISTORY"].at, told)
+            count = len(part[b"NURSE_HISTORY"].lines)
+            message = f"NURSE_HISTORY has {count} lines, and the scenario {len(self.nurses)} nurses"
+            self.recovery.note(part[b"NURSE_HISTORY"].at, f"{message}; none for {', '.join(lacking[:5])}{more}")
 
     def of_week(self, part: Part) -> None:
         for (at,) in self.lines(part, b"WEEK_DATA"):
@@ -107,10 +105,8 @@ class Names:
             self.look_up(skill, self.skills, "skill")
             both = self.words[shift], self.words[skill]
             if both in seen:
-                told = (
-                    f"{shown(both[0])} {shown(both[1])} has a second line in this week; the first is line {seen[both].line}"
-                )
-                self.recovery.tell(shift, told, skill)
+                message = f"{shown(both[0])} {shown(both[1])} has a second line in this week"
+                self.recovery.note(shift, f"{message}; the first is line {seen[both].line}", skill)
             seen.setdefault(both, self.recovery.words.place(shift))
         for keyword in (b"SHIFT_OFF_REQUESTS", b"SHIFT_ON_REQUESTS"):
             for nurse, shift, _ in self.lines(part, keyword):
@@ -132,12 +128,12 @@ class Names:
                 both = self.words[nurse], day
                 if both in seen and both[0] in self.nurses:
                     first = self.recovery.words.place(seen[both])
-                    told = f"H1 week {week} {DAYS[day].decode()} {shown(both[0])}"
-                    self.recovery.tell(nurse, f"{told}: this is a second line for the day; the first is line {first.line}")
+                    breach = f"H1 week {week} {DAYS[day].decode()} {shown(both[0])}"
+                    self.recovery.note(nurse, f"{breach}: this is a second line for the day; the first is line {first.line}")
                 seen.setdefault(both, nurse)
 
 
 def findings_of(recovery: Recovery) -> list[Finding]:
     """All faults of a recovery, those of its names included, in the order of the text."""
     Names(recovery)
-    return sorted(recovery.findings, key=lambda it: it.offset)
+    return sorted(recovery.findings, key=lambda finding: finding.offset)

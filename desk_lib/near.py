@@ -1,29 +1,28 @@
 """The command `improve --few`: a roster that keeps the hard rules, and in which few days are other than in the one that was given.
 
-Where it is enough that those who are absent don't come, nothing else changes. Else each nurse who is missed may be one who changes on
-that day alone (filling.py), the fewest changes that there can be. And `plan` looks for a roster, with --keep from high to low and then
-without: by --keep N each day on which a nurse has another shift than in the roster given, or is off, costs N more. What saves more
-than that changes even so, and skills for nothing; so each roster is trimmed, too: all is taken back for which no hard rule asks. The
-one with the fewest changes is put into the file, of these the cheapest, and all are told.
+If it is enough that those who are absent don't come, nothing else changes. Else each nurse who is missed may be one who changes on that
+day alone (filling.py), which makes the fewest changes that there can be. And `plan` looks for a roster, with --keep from high to low and
+then without: by --keep N each day on which a nurse has another shift than in the roster given, or is off, costs N more. What saves more
+than that changes even so, and skills cost nothing; so each roster is trimmed, too: all changes are taken back for which no hard rule asks.
+The roster with the fewest changes is put into the file, of several the cheapest, and all are reported.
 """
 import contextlib
 import dataclasses
 import itertools
 
-from reckoning import moved_days
-
 from desk_lib import program
+from desk_lib.case import Roster, changed_days, changed_nurses, moved_days
 from desk_lib.filling import Filling
-from desk_lib.floor import number_of, words_of
 from desk_lib.improve import NOT_FOUND, TRIES, Run
-from desk_lib.model import Plan, Roster, changed_days, changed_nurses, solutions_of, without_absent
+from desk_lib.lower_bound import number_of, words_of
+from desk_lib.model import Plan, solutions_of, without_absent
 from desk_lib.program import Answer, Running, costs_by, plan_in, refusal
 from desk_lib.signals import within_time
 from desk_lib.tables import aligned
 from desk_lib.texts import DeskError, Text, Texts, plural, shown
 from desk_lib.trimming import Trimming
 
-# How many rosters are looked at in which each nurse who is missed is one who changes on that day alone.
+# How many rosters are tried in which each nurse who is missed is one who changes on that day alone.
 FILLINGS = 200
 # What a changed day costs more, from high to low; 0 is as without.
 KEEPS = (100, 50, 20, 10, 0)
@@ -45,7 +44,7 @@ class Near:
     def rank(self) -> tuple[int, int, int]:
         return self.days, self.skills, self.cost
 
-    def told(self) -> str:
+    def text(self) -> str:
         skills = f", and {plural(self.skills, 'skill')}" if self.skills else ""
         return f"{plural(self.days, 'day')}{skills} of {plural(self.nurses, 'nurse')} changed, penalty {self.cost}"
 
@@ -54,7 +53,7 @@ class Near:
 
 
 def near_of(plan: Plan, how: str, solutions: bytes, roster: Roster, cost: int) -> Near:
-    """A roster beside that of the files."""
+    """A roster, compared with that of the files."""
     days = moved_days(plan.before, roster)
     return Near(how, solutions, roster, cost, days, changed_days(plan.before, roster) - days, changed_nurses(plan.before, roster))
 
@@ -64,10 +63,10 @@ class Repair:
 
     def __init__(self, run: Run, seed: int):
         self.run, self.plan, self.seed = run, run.start, seed
-        self.from_week = words_of(run.sought.first_week)
+        self.from_week = words_of(run.bound_search.first_week)
         self.found: dict[str, Near] = {}
         self.nearest: Near | None = None
-        # (what is told where no run of `plan` finds a roster)
+        # (the message if no run of `plan` finds a roster)
         self.lacking = "the time is over, and no roster that keeps the hard rules was found"
 
     # ---- the rosters
@@ -79,18 +78,18 @@ class Repair:
         return Texts([*self.run.before.texts, Text("the roster so far", solutions)])
 
     def take(self, how: str, answer: Answer, keep: int = 0) -> Near:
-        """Takes a roster that the program wrote. Where its log tells a penalty, that is held to what the roster costs."""
+        """Takes a roster that the program wrote. The penalty in its log has to be what the roster costs."""
         texts = self.with_solutions(answer.output)
         roster, cost = plan_in(texts).roster, costs_by(self.run.roster, texts)["total"]
         moved = moved_days(self.plan.roster, roster)
         if number_of(answer.end()) != cost + keep * moved:
             by_keep = f" less {keep * moved} by --keep" if keep else ""
-            told = f"the log says {number_of(answer.end())}{by_keep}, and 'roster cost' {cost}; the roster isn't taken"
-            raise DeskError(f"{told}. This is a fault of the desk", 3)
+            message = f"the log says {number_of(answer.end())}{by_keep}, and 'roster cost' {cost}; the roster isn't taken"
+            raise DeskError(f"{message}. This is a fault of the desk", 3)
         return near_of(self.plan, how, answer.output, roster, cost)
 
     def add(self, near: Near) -> None:
-        """Keeps it, where it is the nearest of its kind, and puts it into the file, where it is the nearest of all."""
+        """Keeps it if it is the nearest of its kind, and puts it into the file if it is the nearest of all."""
         if near.how not in self.found or near.rank() < self.found[near.how].rank():
             self.found[near.how] = near
         if not self.nearest or near.rank() < self.nearest.rank():
@@ -100,30 +99,31 @@ class Repair:
             self.run.progress.line(self.run.end)
 
     def written(self, how: str, roster: Roster) -> None:
-        """Has the program write a roster of the desk's, where it keeps the hard rules."""
+        """Has the program write a roster of the desk's, if it keeps the hard rules."""
         answer = self.run.roster.call(["improve", "--rounds", "0", *self.from_week], self.texts(roster).joined)
         if answer.status == 0:
             self.add(self.take(how, answer))
 
     # ---- how they are found
 
-    def search(self, searches: int | None, end: float | None) -> None:
-        """Finds rosters, with so many searches in a run of `plan`, or in the time."""
-        self.run.progress.show_word("rosters near to the one given are looked for")
-        # (what `plan` refuses has no repair: it is told before a roster is written)
+    def search(self, searches: int | None, end: float | None) -> Near:
+        """Finds rosters, with this number of searches in a run of `plan`, or in the time. Returns the nearest."""
+        self.run.progress.show_text("rosters near to the one given are looked for")
+        # (what `plan` refuses has no repair, and is an error before a roster is written)
         asked = self.run.roster.call(["plan", "--searches", "0", *self.from_week], self.run.given.joined)
         if asked.status and not asked.last().startswith(NOT_FOUND):
             raise refusal("plan", asked, self.run.given)
         self.written("the absent ones alone", without_absent(self.plan))
-        counts = TRIES if searches is None and end is not None else [searches]
+        counts: list[int | None] = [*TRIES] if searches is None and end is not None else [searches]
         within_time(end, lambda: self.searched(counts))
-        if not self.found:
+        if not self.nearest:
             raise DeskError(f"{self.lacking}; give more searches by --polish, more --seconds, or need less")
+        return self.nearest
 
     def searched(self, counts: list[int | None]) -> None:
         if not self.found:
             # (each of these has as few changes as there can be)
-            filling = Filling(self.plan, self.run.sought.first_week)
+            filling = Filling(self.plan, self.run.bound_search.first_week)
             for roster in itertools.islice(filling.rosters(), FILLINGS):
                 self.written("one for each who is missed", roster)
         for searches in counts:
@@ -132,7 +132,7 @@ class Repair:
                 started = [stack.enter_context(self.start(keep, of_searches)) for keep in KEEPS]
                 for keep, running in zip(KEEPS, started):
                     self.ended(keep, running)
-            self.run.searches += len(KEEPS) * (self.run.unsaid() if searches is None else searches)
+            self.run.searches += len(KEEPS) * (self.run.default_searches() if searches is None else searches)
 
     def start(self, keep: int, more: list[str]) -> Running:
         """A run of `plan` with this --keep. They go on side by side."""
@@ -154,20 +154,20 @@ class Repair:
             self.written("trimmed", Trimming(self.plan, near.roster).trimmed())
 
 
-def told(run: Run) -> str:
+def changes_text(run: Run) -> str:
     """What the file has after a run with --keep."""
     roster = plan_in(run.texts()).roster
-    return f"{shown(run.out)}: {near_of(run.start, '', run.solutions, roster, run.total).told()}"
+    return f"{shown(run.out)}: {near_of(run.start, '', run.solutions, roster, run.total).text()}"
 
 
 def repair(run: Run, searches: int | None, seed: int, end: float | None) -> list[str]:
-    """Puts the roster with the fewest changes into the file, and tells what was found."""
+    """Puts the roster with the fewest changes into the file, and returns a table of those that were found."""
     run.lacking = "no roster was found"
     repair = Repair(run, seed)
-    repair.search(searches, end)
-    nearest = repair.nearest
-    # (of one roster that was found twice, how it has the fewest changes is told)
-    found = {it.solutions: it for it in sorted(repair.found.values(), key=Near.rank, reverse=True)} | {nearest.solutions: nearest}
-    rows = [it.cells() for it in sorted(found.values(), key=Near.rank)]
-    told = f"{shown(run.out)}: {nearest.told()}; changed in it, and in others that were found:"
-    return [told, *aligned([["", "days", "skills", "nurses", "penalty"], *rows])]
+    nearest = repair.search(searches, end)
+    # (of one roster that was found twice, the table has how it has the fewest changes)
+    of_all = sorted(repair.found.values(), key=Near.rank, reverse=True)
+    found = {near.solutions: near for near in of_all} | {nearest.solutions: nearest}
+    rows = [near.cells() for near in sorted(found.values(), key=Near.rank)]
+    head = f"{shown(run.out)}: {nearest.text()}; changed in it, and in others that were found:"
+    return [head, *aligned([["", "days", "skills", "nurses", "penalty"], *rows])]

@@ -1,28 +1,28 @@
 """The month after: the history that a roster leaves, and a folder with the texts of the next one."""
+import collections.abc
 import contextlib
 import os
 import re
 
-from reckoning import SATURDAY, SUNDAY, History, Nurse
-
+from desk_lib.case import SATURDAY, SUNDAY, History, Nurse, Row, shift_of
 from desk_lib.grammar import NONE, SMALL
-from desk_lib.model import Plan, Row, with_no_solutions
+from desk_lib.model import Plan, with_no_solutions
 from desk_lib.program import Program, plan_in
 from desk_lib.replacing import Replacement
 from desk_lib.texts import DeskError, Text, Texts, shown
 
 
-def last_run(kinds: list, kind: object) -> int:
+def last_run(kinds: collections.abc.Sequence[object], kind: object) -> int:
     """How many days of a kind stand at the end."""
-    return next((at for at, it in enumerate(reversed(kinds)) if it != kind), len(kinds))
+    return next((at for at, other in enumerate(reversed(kinds)) if other != kind), len(kinds))
 
 
 def history_of(nurse: Nurse, row: Row, carry: bool) -> History:
     """What a nurse's row leaves for the days after it. A run over all days goes on from that of the history; a run longer than a
     history can hold is as long as that, which no limit is above."""
     past, days = nurse.history, len(row)
-    shifts = [choice and choice[0] for choice in row]
-    last, worked = shifts[-1], [it is not None for it in shifts]
+    shifts = [shift_of(choice) for choice in row]
+    last, worked = shifts[-1], [shift is not None for shift in shifts]
     of_last, working, off = 0, last_run(worked, True), last_run(worked, False)
     if last is not None:
         of_last = last_run(shifts, last)
@@ -32,19 +32,20 @@ def history_of(nurse: Nurse, row: Row, carry: bool) -> History:
         off += past.off
     weekends = sum(map(any, zip(worked[SATURDAY::7], worked[SUNDAY::7])))
     totals = (past.assignments + sum(worked), past.weekends + weekends) if carry else (0, 0)
-    return History(*totals, last, *(min(SMALL, it) for it in (of_last, working, off)))
+    return History(*totals, last, *(min(SMALL, run) for run in (of_last, working, off)))
 
 
 def history_text(plan: Plan, carry: bool) -> bytes:
     """The history after a roster, in which the totals are 0 unless they are carried."""
     case, lines = plan.case, []
     for nurse, row in zip(case.nurses, plan.roster):
-        it = history_of(nurse, row, carry)
-        if max(it.assignments, it.weekends) > SMALL:
-            told = f"{shown(nurse.name)} has {it.assignments} assignments by now, and a history holds {SMALL}"
-            raise DeskError(f"{told}; leave --carry out")
-        last = NONE if it.last is None else case.shifts[it.last].name
-        lines.append(b"%s %d %d %s %d %d %d\n" % (nurse.name, it.assignments, it.weekends, last, it.of_last, it.working, it.off))
+        after = history_of(nurse, row, carry)
+        if max(after.assignments, after.weekends) > SMALL:
+            message = f"{shown(nurse.name)} has {after.assignments} assignments by now, and a history holds {SMALL}"
+            raise DeskError(f"{message}; leave --carry out")
+        last = NONE if after.last is None else case.shifts[after.last].name
+        runs = after.of_last, after.working, after.off
+        lines.append(b"%s %d %d %s %d %d %d\n" % (nurse.name, after.assignments, after.weekends, last, *runs))
     return b"HISTORY\n0 %s\n\nNURSE_HISTORY\n%s" % (case.name, b"".join(lines))
 
 
@@ -52,7 +53,7 @@ def needs_texts(plan: Plan, texts: Texts) -> list[bytes]:
     """The week data with their needs, and without requests and absences."""
     found = []
     for part in plan.bundle.weeks:
-        first, last = (plan.words.offset(part[it].at) for it in (b"WEEK_DATA", b"SHIFT_OFF_REQUESTS"))
+        first, last = (plan.words.offset(part[keyword].at) for keyword in (b"WEEK_DATA", b"SHIFT_OFF_REQUESTS"))
         found.append(texts.joined[first:last].rstrip() + b"\n\nSHIFT_OFF_REQUESTS = 0\n")
     return found
 
@@ -61,20 +62,20 @@ def next_files(plan: Plan, texts: Texts, folder: str, carry: bool) -> list[tuple
     """The files of the next month, in the program's order: their names and their bytes."""
     name = re.sub(r"[^\w.-]", "_", shown(plan.case.name))
     scenario = texts.joined[: plan.words.offset(plan.bundle.history[b"HISTORY"].at)].rstrip() + b"\n"
-    weeks = [(f"WD-{name}-{week}.txt", it) for week, it in enumerate(needs_texts(plan, texts))]
+    weeks = [(f"WD-{name}-{week}.txt", data) for week, data in enumerate(needs_texts(plan, texts))]
     files = [(f"Sc-{name}.txt", scenario), (f"H0-{name}-0.txt", history_text(plan, carry)), *weeks]
-    return [(os.path.join(folder, it), data) for it, data in files]
+    return [(os.path.join(folder, name), data) for name, data in files]
 
 
 def write_next(roster: Program, plan: Plan, files: list[tuple[str, bytes]]) -> None:
     """Writes the files, once they are read back and the program takes them."""
     with contextlib.ExitStack() as stack:
-        new = [stack.enter_context(Replacement(*it)) for it in files]
-        back = with_no_solutions(Texts([Text(it.name, it.read()) for it in new]))
+        new = [stack.enter_context(Replacement(name, data)) for name, data in files]
+        back = with_no_solutions(Texts([Text(file.name, file.read()) for file in new]))
         roster.ask(["show"], back)
         case = plan_in(back).case
         if (case.needs, case.contracts, case.requests) != (plan.case.needs, plan.case.contracts, set()):
-            told = f"{shown(files[0][0])}: read back it is another ward; nothing is written"
-            raise DeskError(f"{told}. This is a fault of the desk", 3)
-        for it in new:
-            it.put()
+            message = f"{shown(files[0][0])}: read back it is another ward; nothing is written"
+            raise DeskError(f"{message}. This is a fault of the desk", 3)
+        for file in new:
+            file.put()

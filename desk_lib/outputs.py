@@ -10,13 +10,13 @@ from desk_lib.texts import DeskError, shown
 # What a file is, as `--out`, and its name.
 Named = tuple[str, str | int]
 Identity = tuple[int, int] | str | None
-# So much of a file, in bytes, tells what it is.
+# How much of a file, in bytes, shows what it is.
 BEGIN = 4096
 
 
 def identity(file: str | int) -> Identity:
-    """What two names of one file have in common: its device and inode, or its path where it isn't there yet. None where it is
-    no file that could be replaced."""
+    """What two names of one file have in common: its device and inode, or its path if it isn't there yet. None if it is no file
+    that could be replaced."""
     try:
         there = os.stat(file)
     except (OSError, ValueError):
@@ -29,16 +29,17 @@ def refuse_inputs(written: collections.abc.Iterable[Named], read: list[Named]) -
     known = [(named, identity(file)) for named, file in read]
     for named, file in written:
         own = identity(file)
-        same = next((other for other, it in known if own is not None and it == own), None)
+        same = next((other for other, there in known if own is not None and there == own), None)
         if same:
-            told = f"{named}: {shown(str(file))} is {same} as well, and would be lost; nothing was done"
-            raise DeskError(f"{told}. Give {named} another name", 2)
+            message = f"{named}: {shown(str(file))} is {same} as well, and would be lost; nothing was done"
+            raise DeskError(f"{message}. Give {named} another name", 2)
         known.append((f"the file of {named}", own))
 
 
 def begins(begin: bytes, word: bytes) -> bool:
     """Whether this is the first word of a file that begins so."""
-    return (WORD.match(begin.lstrip()) or [b""])[0] == word
+    match = WORD.match(begin.lstrip())
+    return (match[0] if match else b"") == word
 
 
 def is_roster(begin: bytes) -> bool:
@@ -78,7 +79,7 @@ OWN = {
 
 
 def refuse_unrelated(named: str, name: str, kind: str) -> None:
-    """Refuses to replace a file that is neither of this kind nor empty. What can't be read is told when it is written."""
+    """Refuses to replace a file that is neither of this kind nor empty. What can't be read is an error when it is written."""
     try:
         if not os.path.isfile(name):
             return
@@ -87,5 +88,5 @@ def refuse_unrelated(named: str, name: str, kind: str) -> None:
     except (OSError, ValueError):
         return
     if begin.strip() and not OWN[kind](begin):
-        told = f"{named}: {shown(name)} is there and is no {kind}; nothing was done"
-        raise DeskError(f"{told}. Give {named} another name, or --force to replace it", 2)
+        message = f"{named}: {shown(name)} is there and is no {kind}; nothing was done"
+        raise DeskError(f"{message}. Give {named} another name, or --force to replace it", 2)

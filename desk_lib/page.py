@@ -5,13 +5,11 @@ import datetime
 import os
 import time
 
-from reckoning import SATURDAY, SUNDAY
-
-from desk_lib import floor as floors
+from desk_lib import lower_bound
+from desk_lib.case import SATURDAY, SUNDAY, Choice, ShiftSkill
 from desk_lib.costs import RULES, Costing
-from desk_lib.days import day_place
+from desk_lib.days import day_text
 from desk_lib.grammar import DAYS
-from desk_lib.model import Choice
 from desk_lib.plot import Plot, Point
 from desk_lib.sheet import Cover, Sheet, date_name
 from desk_lib.texts import plural
@@ -48,8 +46,8 @@ class Wanted:
 
 def now() -> datetime.datetime:
     """The time at which something is made, in UTC; SOURCE_DATE_EPOCH, in seconds from 1970 on, names another."""
-    told = os.environ.get("SOURCE_DATE_EPOCH", "")
-    return datetime.datetime.fromtimestamp(int(told) if told.isdigit() else time.time(), datetime.timezone.utc)
+    seconds = os.environ.get("SOURCE_DATE_EPOCH", "")
+    return datetime.datetime.fromtimestamp(int(seconds) if seconds.isdigit() else time.time(), datetime.timezone.utc)
 
 
 def style() -> str:
@@ -58,8 +56,8 @@ def style() -> str:
 
 
 def number(now: int, before: int | None = None) -> str:
-    """A number, in front of it what it was before where that was another one."""
-    if before in (None, now):
+    """A number, in front of it what it was before if that was another one."""
+    if before is None or before == now:
         return str(now)
     return f'<span class="was{" more" if before < now else ""}">{before} →</span>{now}'
 
@@ -73,15 +71,15 @@ def number_cell(now: int, before: int | None) -> str:
 class Page:
     """The page of a sheet."""
 
-    def __init__(self, sheet: Sheet, before: Costing | None, log: list[Point], floor: int | None, wanted: Wanted):
+    def __init__(self, sheet: Sheet, before: Costing | None, log: list[Point], bound: int | None, wanted: Wanted):
         self.sheet, self.case, self.costing, self.before = sheet, sheet.case, sheet.costing, before
-        self.log, self.floor, self.wanted = log, floor, wanted
+        self.log, self.bound, self.wanted = log, bound, wanted
 
     def text(self) -> str:
-        parts = [self.head(), "<main>", *self.parts(), "</main>", self.foot()]
-        return "\n".join(it for it in parts if it) + "\n"
+        blocks = [self.head(), "<main>", *self.sections(), "</main>", self.foot()]
+        return "\n".join(filter(None, blocks)) + "\n"
 
-    def parts(self) -> list[str]:
+    def sections(self) -> list[str]:
         """What stands between the head and the foot."""
         if self.wanted.nurse is not None:
             return [month(self.sheet, self.wanted.nurse)]
@@ -92,7 +90,7 @@ class Page:
 
     def head(self) -> str:
         title, case, nurse = escaped(self.wanted.title), self.case, self.wanted.nurse
-        told = f"{plural(case.weeks, 'week')}, {plural(len(case.nurses), 'nurse')}{self.told_frozen()}{self.told_changes()}"
+        size = f"{plural(case.weeks, 'week')}, {plural(len(case.nurses), 'nurse')}{self.frozen_clause()}{self.changes_clause()}"
         name = "" if nurse is None else escaped(case.nurses[nurse].name)
         return f"""<!doctype html>
 <html lang="en">
@@ -107,49 +105,56 @@ class Page:
 <body>
 <header>
 <h1>{name or title}</h1>
-<p>{title if name else told}</p>
-{"" if name else f'<nav aria-label="Parts of this page">{self.links()}</nav>'}
+<p>{title if name else size}</p>
+{"" if name else f'<nav aria-label="Sections of this page">{self.links()}</nav>'}
 {"" if name or self.wanted.is_notice else self.cards() + self.breaches()}
 </header>"""
 
     def links(self) -> str:
-        """The parts of the page, by links to them."""
+        """The sections of the page, by links to them."""
         links = [("grid", "Grid"), ("days", "Who is on"), *[("changes", "Changes")] * bool(self.sheet.changes())]
         if not self.wanted.is_notice:
             links += [("totals", "Totals"), ("nurses", "Costs by nurse"), ("staffing", "Staffing")]
             links += [("log", "The run")] if self.log else []
-        return "".join(f'<a href="#{at}">{told}</a>' for at, told in links)
+        return "".join(f'<a href="#{at}">{title}</a>' for at, title in links)
 
     def breaches(self) -> str:
         """The hard rules that are broken, in words."""
-        head, *lines = map(escaped, self.sheet.told_breaches() or [""])
-        items = "".join(f"<li>{it}</li>" for it in lines)
+        head, *lines = map(escaped, self.sheet.breach_lines() or [""])
+        items = "".join(f"<li>{line}</li>" for line in lines)
         return f'<div class="broken"><b>{head}</b><ul>{items}</ul></div>' if lines else ""
 
-    def told_frozen(self) -> str:
+    def frozen_clause(self) -> str:
         week, past = self.sheet.first_week, self.sheet.past
         if past > 7 * week:
-            return f", days before {day_place(past)} frozen" if past < self.costing.plan.days else ", all days frozen"
+            return f", days before {day_text(past)} frozen" if past < self.costing.plan.days else ", all days frozen"
         return f", weeks before {week} frozen" if week else ""
 
-    def told_changes(self) -> str:
+    def changes_clause(self) -> str:
         if not self.before:
             return ""
         count = self.sheet.changed()
         return f", {plural(count, 'day')} changed" if count else ", no day changed"
 
     def cards(self) -> str:
-        """The total, the floor, and the rules, each with its penalty."""
-        now, old = self.costing.totals_by_rule(), self.before and self.before.totals_by_rule()
-        was = lambda rule: f"<small>was {old[rule]}</small>" if old and old[rule] != now[rule] else ""
+        """The total, the lower bound, and the rules, each with its penalty."""
+        now, old = self.costing.totals_by_rule(), self.old_totals()
+
+        def was(rule: str) -> str:
+            return f"<small>was {old[rule]}</small>" if old and old[rule] != now[rule] else ""
+
         cards = [f'<li class="total"><span>penalty</span><b>{now["total"]}</b>{was("total")}</li>']
-        if self.floor is not None:
-            is_met = now["total"] == self.floor
-            told = floors.optimal(bool(self.sheet.past or self.case.fixed)) if is_met else f"{now['total'] - self.floor} above it"
+        if self.bound is not None:
+            is_met, is_frozen = now["total"] == self.bound, bool(self.sheet.past or self.case.fixed)
+            compared = lower_bound.optimal(is_frozen) if is_met else f"the roster is {now['total'] - self.bound} above it"
             kind = ' class="optimal"' if is_met else ""
-            cards.append(f"<li{kind}><span>floor of all rosters</span><b>{self.floor}</b><small>{told}</small></li>")
+            cards.append(f"<li{kind}><span>lower bound</span><b>{self.bound}</b><small>{compared}</small></li>")
         cards += [f"<li><span>{rule} {MEANING[rule]}</span><b>{now[rule]}</b>{was(rule)}</li>" for rule in MEANING]
         return f'<ul class="cards">{"".join(cards)}</ul>'
+
+    def old_totals(self) -> dict[str, int] | None:
+        """The penalties by rule of the roster before."""
+        return self.before.totals_by_rule() if self.before else None
 
     # ---- the grid
 
@@ -158,19 +163,19 @@ class Page:
             self.block(self.sheet.weeks[first : first + AT_ONCE]) for first in range(0, len(self.sheet.weeks), AT_ONCE)
         ]
         about = "" if self.wanted.is_notice else ABOUT_COVER
-        parts = ['<section id="grid">', "<h2>Grid</h2>", self.legend(), about, *blocks, "</section>"]
-        return "\n".join(it for it in parts if it)
+        lines = ['<section id="grid">', "<h2>Grid</h2>", self.legend(), about, *blocks, "</section>"]
+        return "\n".join(filter(None, lines))
 
     def legend(self) -> str:
         sheet = self.sheet
         items = [
-            f'<span class="key s{at}">{letter}</span>{escaped(it.name)}'
-            for at, (letter, it) in enumerate(zip(sheet.shift_letters, self.case.shifts))
+            f'<span class="key s{at}">{letter}</span>{escaped(shift.name)}'
+            for at, (letter, shift) in enumerate(zip(sheet.shift_letters, self.case.shifts))
         ]
         items.append('<span class="key off">·</span>off')
         items += ['<span class="key off">×</span>absent'] if self.case.absences else []
         items += [
-            f'<span class="key">{letter}</span>{escaped(it)}' for letter, it in zip(sheet.skill_letters, self.case.skills)
+            f'<span class="key">{letter}</span>{escaped(skill)}' for letter, skill in zip(sheet.skill_letters, self.case.skills)
         ]
         if self.before:
             first = sheet.shift_letters[0]
@@ -181,16 +186,16 @@ class Page:
             items.append('<span class="key bad">!!</span>a broken hard rule')
         if sheet.first_week or self.case.fixed:
             items.append(f'<span class="key frozen"></span>frozen {"day" if self.case.fixed else "week"}')
-        return f'<ul class="legend">{"".join(f"<li>{it}</li>" for it in items)}</ul>'
+        return f'<ul class="legend">{"".join(f"<li>{item}</li>" for item in items)}</ul>'
 
     def block(self, weeks: range) -> str:
         """A table of some weeks: their heads, the nurses, and the cover."""
-        told = f"Weeks {weeks[0]} to {weeks[-1]}" if len(weeks) > 1 else f"Week {weeks[0]}"
-        heads = "".join(f'<th class="week" colspan="7" scope="colgroup">{self.week_name(it)}</th>' for it in weeks)
+        caption = f"Weeks {weeks[0]} to {weeks[-1]}" if len(weeks) > 1 else f"Week {weeks[0]}"
+        heads = "".join(f'<th class="week" colspan="7" scope="colgroup">{self.week_name(week)}</th>' for week in weeks)
         days = "".join(self.day_head(7 * week + day) for week in weeks for day in range(7))
         lines = [
-            f'<div class="scroll" tabindex="0" role="region" aria-label="{told}">',
-            f'<table class="grid"><caption>{told}</caption>',
+            f'<div class="scroll" tabindex="0" role="region" aria-label="{caption}">',
+            f'<table class="grid"><caption>{caption}</caption>',
             f'<thead><tr><th></th>{heads}</tr><tr><th scope="col">nurse</th>{days}</tr></thead>',
             '<tbody class="nurses">',
             *(self.nurse(number, weeks) for number in range(len(self.case.nurses))),
@@ -198,20 +203,20 @@ class Page:
             "" if self.wanted.is_notice else self.covers(weeks),
             "</table></div>",
         ]
-        return "\n".join(it for it in lines if it)
+        return "\n".join(filter(None, lines))
 
     def covers(self, weeks: range) -> str:
-        rows = "\n".join(self.cover(at, weeks) for at in self.sheet.places())
+        rows = "\n".join(self.cover(at, weeks) for at in self.sheet.needed())
         return f'<tbody class="cover">\n{rows}\n</tbody>'
 
     def week_name(self, week: int) -> str:
-        date, part = self.sheet.date(7 * week), self.sheet.frozen_part(week)
-        return f"Week {week}{f' from {date_name(date)}' if date else ''}{f' ({part})' if part else ''}"
+        date, frozen = self.sheet.date(7 * week), self.sheet.frozen_part(week)
+        return f"Week {week}{f' from {date_name(date)}' if date else ''}{f' ({frozen})' if frozen else ''}"
 
     def day_head(self, day: int) -> str:
         date = self.sheet.date(day)
-        told = f'{DAYS[day % 7].decode()[:2]}{f"<small>{date.day}</small>" if date else ""}'
-        return f'<th scope="col"{self.classes(day)} title="{self.sheet.day_name(day)}">{told}</th>'
+        name = f'{DAYS[day % 7].decode()[:2]}{f"<small>{date.day}</small>" if date else ""}'
+        return f'<th scope="col"{self.classes(day)} title="{self.sheet.day_name(day)}">{name}</th>'
 
     def classes(self, day: int, *more: str) -> str:
         """The classes of a day's cell."""
@@ -222,8 +227,8 @@ class Page:
     def nurse(self, number: int, weeks: range) -> str:
         name = escaped(self.case.nurses[number].name)
         days = range(7 * weeks[0], 7 * weeks[-1] + 7)
-        held = lambda day: ["frozen"] * self.sheet.rows[number][day].is_frozen
-        cells = "".join(f"<td{self.classes(day, *held(day))}>{self.cell(number, day)}</td>" for day in days)
+        classes = [self.classes(day, *["frozen"] * self.sheet.rows[number][day].is_frozen) for day in days]
+        cells = "".join(f"<td{of_day}>{self.cell(number, day)}</td>" for of_day, day in zip(classes, days))
         return f'<tr><th scope="row" title="{name}">{name}</th>{cells}</tr>'
 
     def cell(self, number: int, day: int) -> str:
@@ -237,34 +242,34 @@ class Page:
         below = (f"‹{self.letter(cell.before)}" if cell.is_changed else "") + mark
         skill = f"<i>{self.sheet.skill_letters[cell.choice[1]]}</i>" if cell.choice else ""
         small = f"<small>{below.strip()}</small>" if below else ""
-        title = escaped(self.sheet.told(number, day, self.wanted.is_notice))
+        title = escaped(self.sheet.cell_text(number, day, self.wanted.is_notice))
         letter = "×" if cell.is_absent and not cell.choice else self.letter(cell.choice)
         return f'<span class="{" ".join(classes)}" role="img" tabindex="-1" title="{title}">{letter}{skill}{small}</span>'
 
     def letter(self, choice: Choice) -> str:
         return "·" if choice is None else self.sheet.shift_letters[choice[0]]
 
-    def cover(self, at: tuple[int, int], weeks: range) -> str:
+    def cover(self, at: ShiftSkill, weeks: range) -> str:
         """A line of the cover of a shift and skill."""
         shift, skill = at
-        days = [(7 * week + day, it) for week in weeks for day, it in enumerate(self.sheet.covers(at, week))]
-        cells = "".join(f"<td{self.classes(day, *low(it))}>{self.cover_cell(at, day, it)}</td>" for day, it in days)
+        days = [(7 * week + day, cover) for week in weeks for day, cover in enumerate(self.sheet.covers(at, week))]
+        cells = "".join(f"<td{self.classes(day, *low(cover))}>{self.cover_cell(at, day, cover)}</td>" for day, cover in days)
         name = f'<span class="key s{shift}">{self.sheet.shift_letters[shift]}</span>{escaped(self.case.skills[skill])}'
-        return f'<tr><th scope="row" title="{escaped(self.sheet.place_name(at))}">{name}</th>{cells}</tr>'
+        return f'<tr><th scope="row" title="{escaped(self.sheet.name_of(at))}">{name}</th>{cells}</tr>'
 
-    def cover_cell(self, at: tuple[int, int], day: int, cover: Cover) -> str:
-        """How many are there, below it the minimum and the optimum; nothing where none is needed nor there."""
+    def cover_cell(self, at: ShiftSkill, day: int, cover: Cover) -> str:
+        """How many are there, below it the minimum and the optimum; nothing if none is needed nor there."""
         if not (cover.have or cover.least or cover.optimum):
             return ""
-        title = escaped(self.sheet.told_cover(at, day, cover))
-        told = f"{cover.have}{cover.mark().replace('-', '−')}<small>{cover.least}–{cover.optimum}</small>"
-        return f'<span role="img" tabindex="-1" title="{title}">{told}</span>'
+        title = escaped(self.sheet.cover_text(at, day, cover))
+        counts = f"{cover.have}{cover.mark().replace('-', '−')}<small>{cover.least}–{cover.optimum}</small>"
+        return f'<span role="img" tabindex="-1" title="{title}">{counts}</span>'
 
     # ---- numbers
 
     def totals(self) -> str:
         """What each nurse has: the contract and the skills, the shifts of each kind, assignments and weekends."""
-        shifts = "".join(f'<th scope="col">{escaped(it.name)}</th>' for it in self.case.shifts)
+        shifts = "".join(f'<th scope="col">{escaped(shift.name)}</th>' for shift in self.case.shifts)
         rows = "\n".join(self.nurse_totals(number) for number in range(len(self.case.nurses)))
         return f"""<section id="totals">
 <h2>Contracts and totals</h2>
@@ -282,20 +287,20 @@ class Page:
         contract, past = self.case.contracts[nurse.contract], nurse.history
         counts = collections.Counter(choice[0] for choice in row if choice)
         weekends = sum(any(pair) for pair in zip(row[SATURDAY::7], row[SUNDAY::7]))
-        skills = ", ".join(escaped(self.case.skills[it]) for it in nurse.skills)
+        skills = ", ".join(escaped(self.case.skills[skill]) for skill in nurse.skills)
         cells = [f'<td class="words">{escaped(self.costing.plan.contract_name(nurse.contract))}</td>']
-        cells += [f'<td class="words">{skills}</td>', *(number_cell(counts[it], None) for it in range(len(self.case.shifts)))]
+        cells += [f'<td class="words">{skills}</td>', *(number_cell(counts[shift], None) for shift in range(len(self.case.shifts)))]
         cells.append(within(past.assignments + sum(counts.values()), *contract.assignments))
         cells.append(within(past.weekends + weekends, 0, contract.weekends))
         return f'<tr><th scope="row" title="{name}">{name}</th>{"".join(cells)}</tr>'
 
     def costs(self) -> str:
         heads = "".join(f'<th scope="col" title="{MEANING[rule]}">{rule}</th>' for rule in RULES)
-        most = max([1, *(sum(it.values()) for it in self.costing.of_nurses)])
+        most = max([1, *(sum(costs.values()) for costs in self.costing.of_nurses)])
         rows = [self.nurse_costs(number, most) for number in range(len(self.case.nurses))]
-        now, old = self.costing.totals_by_rule(), self.before and self.before.totals_by_rule()
-        sums = "".join(number_cell(now[rule], old and old[rule]) for rule in RULES)
-        whole = number(sum(now[it] for it in RULES), old and sum(old[it] for it in RULES))
+        now, old = self.costing.totals_by_rule(), self.old_totals()
+        sums = "".join(number_cell(now[rule], old[rule] if old else None) for rule in RULES)
+        whole = number(sum(now[rule] for rule in RULES), sum(old[rule] for rule in RULES) if old else None)
         return f"""<section id="nurses">
 <h2>Costs by nurse</h2>
 <div class="scroll" tabindex="0" role="region" aria-label="Costs by nurse">
@@ -307,22 +312,22 @@ class Page:
 </section>"""
 
     def nurse_costs(self, at: int, most: int) -> str:
-        costs, old = self.costing.of_nurses[at], self.before and self.before.of_nurses[at]
-        cells = "".join(number_cell(costs[rule], old and old[rule]) for rule in RULES)
+        costs, old = self.costing.of_nurses[at], self.before.of_nurses[at] if self.before else None
+        cells = "".join(number_cell(costs[rule], old[rule] if old else None) for rule in RULES)
         total, name = sum(costs.values()), escaped(self.case.nurses[at].name)
         bar = f'<td class="bar"><span style="width:{100 * total // most}%"></span></td>'
-        whole = number(total, old and sum(old.values()))
+        whole = number(total, sum(old.values()) if old else None)
         return f'<tr><th scope="row" title="{name}">{name}</th>{cells}<td class="sum">{whole}</td>{bar}</tr>'
 
     def staffing(self) -> str:
         """S1 by shift and skill."""
         case, both = self.case, (self.costing, self.before or self.costing)
-        heads = "".join(f'<th scope="col">{escaped(it)}</th>' for it in case.skills)
+        heads = "".join(f'<th scope="col">{escaped(skill)}</th>' for skill in case.skills)
         rows = []
-        for shift, it in enumerate(case.shifts):
-            now, old = ([by.of_places.get((shift, at), 0) for at in range(len(case.skills))] for by in both)
+        for shift, (name, _) in enumerate(case.shifts):
+            now, old = ([costing.staffing.get((shift, skill), 0) for skill in range(len(case.skills))] for costing in both)
             cells = "".join(map(number_cell, now, old))
-            key = f'<span class="key s{shift}">{self.sheet.shift_letters[shift]}</span> {escaped(it.name)}'
+            key = f'<span class="key s{shift}">{self.sheet.shift_letters[shift]}</span> {escaped(name)}'
             rows.append(f'<tr><th scope="row">{key}</th>{cells}<td class="sum">{number(sum(now), sum(old))}</td></tr>')
         return f"""<section id="staffing">
 <h2>Staffing: S1 by shift and skill</h2>
@@ -339,14 +344,14 @@ class Page:
         if not self.log:
             return ""
         return (
-            f'<section id="log">\n<h2>The run</h2>\n<div class="plot">{Plot(self.log, self.floor).svg()}</div>\n</section>'
+            f'<section id="log">\n<h2>The run</h2>\n<div class="plot">{Plot(self.log, self.bound).svg()}</div>\n</section>'
         )
 
     def foot(self) -> str:
         made = f"Made by desk on {date_name(now().astimezone().date())}, with {escaped(self.wanted.version)}."
         has_totals = not self.wanted.is_notice and self.wanted.nurse is None
-        told = " Each total is that of the program roster; the costs by nurse add up to it." if has_totals else ""
-        return f"""<footer>{made}{told}</footer>
+        totals = " Each total is that of the program roster; the costs by nurse add up to it." if has_totals else ""
+        return f"""<footer>{made}{totals}</footer>
 </body>
 </html>"""
 
@@ -356,7 +361,7 @@ def low(cover: Cover) -> list[str]:
 
 
 def within(count: int, least: int, greatest: int) -> str:
-    """A cell with a number and what it may be, which are told apart by a mark where it isn't that."""
+    """A cell with a number and what it may be, and a mark if it isn't that."""
     is_outside = not least <= count <= greatest
     grade = ' class="bad"' if is_outside else ""
     return f'<td{grade}>{count}{"!" * is_outside} <small>of {least}–{greatest}</small></td>'

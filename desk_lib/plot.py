@@ -5,12 +5,13 @@ import re
 from desk_lib.texts import DeskError, shown
 
 WIDTH, HEIGHT, LEFT, RIGHT, TOP, BOTTOM = 720, 260, 56, 78, 24, 36
-# So far apart are texts beside each other, and below each other.
-BESIDE, BELOW = 22, 15
+# How far apart texts are that stand side by side, and one below the other.
+ASIDE, BELOW = 22, 15
 LINE = re.compile(rb"(start|round|settled|stopped|fade|kick|slice|few|\d+)(?: (.*))? (\d+)", re.S)
-# Lines that don't tell what the roster costs: how many nurses the minimums miss, what a changed day costs more, what a run by another seed comes to, and at the
-# end of the file of --log how the run was made.
-OTHER = re.compile(rb"(missing|keep|seed|time|searches|floor|optimal:|version) \S.*", re.S)
+# Lines without what the roster costs: how many nurses the minimums miss, what a changed day costs more, what a run by another seed
+# comes to, and at the end of the file of --log how the run was made. (In logs that the desk wrote before, a bound has another name.)
+OLD_BOUND = b"floor"
+OTHER = re.compile(rb"(missing|keep|seed|time|searches|bound|" + OLD_BOUND + rb"|optimal:|version) \S.*", re.S)
 
 
 @dataclasses.dataclass(frozen=True)
@@ -30,15 +31,15 @@ def points_in(log: bytes, name: str) -> list[Point]:
     """The lines of a log. Those of other programs' messages are refused."""
     found = []
     for number, line in enumerate(log.splitlines(), 1):
-        told = LINE.fullmatch(line)
-        if OTHER.fullmatch(line) or not told and line.startswith((b"desk: ", b"roster: ")):
+        match = LINE.fullmatch(line)
+        if OTHER.fullmatch(line) or not match and line.startswith((b"desk: ", b"roster: ")):
             continue
-        if not told:
+        if not match:
             raise DeskError(
                 f"{shown(name)}:{number}: no line of a log: '{shown(line[:40])}'; --log wants what improve wrote on standard"
                 " error"
             )
-        found.append(Point(told[1].decode(), int(told[3])))
+        found.append(Point(match[1].decode(), int(match[3])))
     if not found:
         raise DeskError(f"{shown(name)}: the log is empty; --log wants what improve wrote on standard error")
     return found
@@ -55,9 +56,9 @@ def nice_step(span: int) -> int:
 class Plot:
     """A drawing of points from left to right."""
 
-    def __init__(self, points: list[Point], floor: int | None):
-        self.points, self.floor = points, floor
-        totals = [it.total for it in points] + ([floor] if floor is not None else [])
+    def __init__(self, points: list[Point], bound: int | None):
+        self.points, self.bound = points, bound
+        totals = [point.total for point in points] + ([bound] if bound is not None else [])
         self.step = nice_step(max(1, max(totals) - min(totals)))
         self.low = min(totals) // self.step * self.step
         self.high = max(self.low + self.step, -(-max(totals) // self.step) * self.step)
@@ -69,7 +70,7 @@ class Plot:
         return TOP + (HEIGHT - TOP - BOTTOM) * (self.high - total) / (self.high - self.low)
 
     def lines(self) -> list[str]:
-        """Lines at round numbers, with these."""
+        """Lines at round numbers, with the numbers."""
         found = []
         for total in range(self.low, self.high + 1, self.step):
             y = self.y(total)
@@ -78,53 +79,53 @@ class Plot:
         return found
 
     def rounds(self) -> list[str]:
-        """A mark where a round ends, with its number where there is room."""
+        """A mark where a round ends, with its number if there is space for it."""
         found, free = [], 0.0
-        for number, at in enumerate((at for at, it in enumerate(self.points) if it.kind == "round"), 1):
+        for number, at in enumerate((at for at, point in enumerate(self.points) if point.kind == "round"), 1):
             x = self.x(at)
             found.append(f'<line class="round" x1="{x:.1f}" x2="{x:.1f}" y1="{TOP}" y2="{HEIGHT - BOTTOM}"/>')
             if x >= free:
                 found.append(below(x, str(number)))
-                free = x + BESIDE
+                free = x + ASIDE
         return found
 
     def polish(self) -> list[str]:
         """The name of what follows the last round, below it, and where it begins."""
-        ends = [at for at, it in enumerate(self.points) if it.kind in ("settled", "stopped")]
+        ends = [at for at, point in enumerate(self.points) if point.kind in ("settled", "stopped")]
         if not ends or ends[0] == len(self.points) - 1:
             return []
         first, last = self.x(ends[0]), self.x(len(self.points) - 1)
         line = f'<line class="polish" x1="{first:.1f}" x2="{first:.1f}" y1="{TOP}" y2="{HEIGHT - BOTTOM + 8}"/>'
-        return [line, below(max(first + 2 * BESIDE, (first + last) / 2), "polish")]
+        return [line, below(max(first + 2 * ASIDE, (first + last) / 2), "polish")]
 
-    def floor_line(self) -> list[str]:
-        if self.floor is None:
+    def bound_line(self) -> list[str]:
+        if self.bound is None:
             return []
-        y = self.y(self.floor)
-        return [f'<line class="floor" x1="{LEFT}" x2="{WIDTH - RIGHT}" y1="{y:.1f}" y2="{y:.1f}"/>']
+        y = self.y(self.bound)
+        return [f'<line class="bound" x1="{LEFT}" x2="{WIDTH - RIGHT}" y1="{y:.1f}" y2="{y:.1f}"/>']
 
     def names(self) -> list[str]:
-        """What the first and the last roster cost, and the floor. At the right they are beside the lines, and not over one."""
+        """What the first and the last roster cost, and the bound. At the right they stand next to the lines, and not over one."""
         first, last = self.points[0].total, self.points[-1].total
         y, right = self.y(last), WIDTH - RIGHT + 9
         found = [f'<text class="first" x="{self.x(0):.1f}" y="{self.y(first) - 9:.1f}">{first}</text>']
-        if self.floor is not None:
-            of_floor = self.y(self.floor)
-            apart = max(0.0, BELOW - abs(of_floor - y)) / 2 * (1 if last >= self.floor else -1)
+        if self.bound is not None:
+            of_bound = self.y(self.bound)
+            apart = max(0.0, BELOW - abs(of_bound - y)) / 2 * (1 if last >= self.bound else -1)
             y -= apart
-            found.append(f'<text class="floor-name" x="{right}" y="{of_floor + apart + 4:.1f}">floor {self.floor}</text>')
+            found.append(f'<text class="bound-name" x="{right}" y="{of_bound + apart + 4:.1f}">bound {self.bound}</text>')
         return [*found, f'<text class="last" x="{right}" y="{y + 4:.1f}">{last}</text>']
 
     def svg(self) -> str:
-        path = " ".join(f"{self.x(at):.1f},{self.y(it.total):.1f}" for at, it in enumerate(self.points))
+        path = " ".join(f"{self.x(at):.1f},{self.y(point.total):.1f}" for at, point in enumerate(self.points))
         first, last = self.points[0].total, self.points[-1].total
-        name = f"The penalty falls from {first} to {last}" + ("" if self.floor is None else f"; the floor is {self.floor}")
+        name = f"The penalty falls from {first} to {last}" + ("" if self.bound is None else f"; the lower bound is {self.bound}")
         ends = [(0, first), (len(self.points) - 1, last)]
         dots = [f'<circle class="dot" cx="{self.x(at):.1f}" cy="{self.y(total):.1f}" r="4"/>' for at, total in ends]
-        parts = [*self.lines(), *self.rounds(), *self.polish(), *self.floor_line()]
-        parts += [f'<polyline class="run" points="{path}"/>', *dots, *self.names()]
-        parts.append(f'<text class="scale" x="{LEFT - 8}" y="{HEIGHT - BOTTOM + 22}">round</text>')
-        return f'<svg viewBox="0 0 {WIDTH} {HEIGHT}" role="img" aria-label="{name}">{"".join(parts)}</svg>'
+        shapes = [*self.lines(), *self.rounds(), *self.polish(), *self.bound_line()]
+        shapes += [f'<polyline class="run" points="{path}"/>', *dots, *self.names()]
+        shapes.append(f'<text class="scale" x="{LEFT - 8}" y="{HEIGHT - BOTTOM + 22}">round</text>')
+        return f'<svg viewBox="0 0 {WIDTH} {HEIGHT}" role="img" aria-label="{name}">{"".join(shapes)}</svg>'
 
 
 def below(x: float, text: str) -> str:

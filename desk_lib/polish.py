@@ -1,42 +1,43 @@
-"""What may follow the rounds of `improve`: whole runs of `polish`, and slices beside them.
+"""What may follow the rounds of `improve`: whole runs of `polish`, and slices next to them.
 
-A run of `polish` writes its roster at its end alone. So, while whole runs go on, short ones, the slices, begin with the roster
-in the file, one after the other, and each that makes it cheaper is put there. At the end the file has the cheapest roster of
+A run of `polish` writes its roster at its end alone. So short runs, the slices, go on at the same time as whole ones. They begin with
+the roster in the file, one after the other, and each roster that is cheaper is put there. At the end the file has the cheapest roster of
 all; of equally dear ones, that of a whole run, which has the very bytes of one that is made without the desk.
 """
 import contextlib
 import dataclasses
+import math
 import os
 import selectors
 import time
 
-from desk_lib.floor import number_of
 from desk_lib.improve import Run
+from desk_lib.lower_bound import number_of
 from desk_lib.program import Answer, Running
 from desk_lib.signals import within_time
 from desk_lib.texts import Texts
 
 MOST_SEARCHES, SEEDS = 10_000_000, 2**32
 # Of slices: searches of the first, seconds of a further one, how much longer it may be than the one before, and how it gives
-# way to whole runs where there are too few processors. Their seeds are far from those of whole runs.
-FIRST, SECONDS, GROWTH, NICENESS, SEED_AWAY = 100, 3.0, 4, 10, 2**31
-# Where the time is given: how much of what is left the first whole run is made for, which tells how fast such runs are, and each
-# after it; and from how many seconds on one is begun. One long run finds more than two that share its time; but a run that doesn't
-# end is lost, and a machine may slow down. So the first is made for less where the machine is at work for others: where the last slice
-# took so many times what a processor gave to it, or more than half of the processors have had work in the last minute.
+# way to whole runs if there are too few processors. Their seeds are far from those of whole runs.
+FIRST, SECONDS, LONGER, NICENESS, SEED_AWAY = 100, 3.0, 4, 10, 2**31
+# If the time is given: how much of what is left the first whole run is made for, which shows how fast such runs are, and each run after
+# it; and how many seconds have to be left for one to begin. One long run finds more than two that share its time; but a run that doesn't
+# end is lost, and a machine may slow down. So the first is made for less if the machine is at work for others: if the last slice took
+# that many times what a processor gave to it, or more than half of the processors have had work in the last minute.
 FIRST_SHARE, BUSY_SHARE, SHARE, WORTHWHILE, BUSY = 0.85, 0.5, 0.75, 2.0, 1.25
-# For how many seconds, and how much of the time that is left, a slice goes on that tells how much is searched in a second; and how much
+# For how many seconds, and how much of the time that is left, a slice goes on that shows how much is searched in a second; and how much
 # faster it may go without what a slice takes besides.
 KNOWN, KNOWN_SHARE, MOST_FASTER = 0.1, 0.02, 1.3
-# How many rounds over all nurses a run makes for its worths at most, and with which part of its searches; and how many times longer
-# such a search takes than another, with what moves the worths: 2.9 to 4.7 on wards of 12 to 120 nurses.
-ROUNDS, PART, OF_WORTHS = 100, 4, 3
+# How many rounds over all nurses a run makes for its dual prices at most, and in which share of its searches; and how many times longer
+# such a search takes than another, with the subgradient steps: 2.9 to 4.7 on wards of 12 to 120 nurses.
+ROUNDS, PRICE_SHARE, OF_PRICES = 100, 4, 3
 
 
 @dataclasses.dataclass(frozen=True)
 class Course:
-    """How whole runs are made: with how many searches, or as many as the time takes; by which seeds; how many searches a slice
-    has, or as many as take some seconds; when the time is over; and how many nurses there are."""
+    """How whole runs are made: with how many searches, or as many as the time allows; by which seeds; how many searches a slice has, or
+    as many as take some seconds; when the time is over; and how many nurses there are."""
 
     searches: int | None
     seeds: list[int]
@@ -62,25 +63,26 @@ class Job:
 
 
 class Pace:
-    """How long searches take, as slices tell that are made one after the other, each with more searches, and then whole runs.
+    """How long searches take, as is learnt from slices that are made one after the other, each with more searches, and then from whole
+    runs.
 
-    A run begins with rounds over all nurses for its worths, in a part of its searches at most. These take longer than the others, so
-    a long run has more searches in a second than a slice."""
+    A run begins with rounds over all nurses for its dual prices, in a share of its searches at most. These take longer than the others,
+    so a long run has more searches in a second than a slice."""
 
     def __init__(self, nurses: int) -> None:
-        # (searches for worths, at most; the seconds of a search that isn't for worths, and what a run takes besides)
-        self.worths, self.each, self.before = ROUNDS * nurses, 0.0, 0.0
+        # (searches for dual prices, at most; the seconds of another search, and what a run takes besides)
+        self.for_prices, self.each, self.before = ROUNDS * nurses, 0.0, 0.0
         # (the seconds of the first slice; the last slice, and whether it had to wait for a processor)
         self.first, self.last, self.is_busy = 0.0, (0.0, 0.0), False
 
     def work(self, searches: int) -> float:
-        """What a run of so many searches takes, in those that aren't for worths."""
-        worths = min(self.worths, searches / PART)
-        return searches + (OF_WORTHS - 1) * worths
+        """What a run of this many searches takes, in searches that aren't for dual prices."""
+        for_prices = min(self.for_prices, searches / PRICE_SHARE)
+        return searches + (OF_PRICES - 1) * for_prices
 
     def learn(self, searches: int, seconds: float, of_processor: float) -> None:
         """Takes what a slice took. What it took besides the searches was in the one before, too. On a machine that is at work for
-        others both may be far off: so the search is held to that of the whole slice."""
+        others both may be far off, so the time of a search is held to that of the whole slice."""
         (less, sooner), work = self.last, self.work(searches)
         sure = self.each = seconds / work
         if sooner and work > less and seconds > sooner:
@@ -90,19 +92,19 @@ class Pace:
         self.is_busy = seconds > BUSY * of_processor or os.getloadavg()[0] > len(os.sched_getaffinity(0)) / 2
 
     def is_known(self, left: float) -> bool:
-        """Whether the last slice was long enough to tell, beside the first one and the seconds that are left."""
+        """Whether the last slice was long enough to learn from, compared with the first one and the seconds that are left."""
         return self.last[1] >= max(KNOWN, KNOWN_SHARE * left, 2 * self.first)
 
     def seconds_of(self, searches: int) -> float:
-        """How long a run of so many searches takes."""
+        """How long a run of this many searches takes."""
         return self.before + self.each * self.work(searches)
 
     def searches_in(self, seconds: float) -> int:
-        """How many searches a run of so many seconds has."""
+        """How many searches a run of this many seconds has."""
         work = (seconds - self.before) / self.each
-        searches = work / self.work(PART) * PART
-        if searches > PART * self.worths:
-            searches = work - (OF_WORTHS - 1) * self.worths
+        searches = work / self.work(PRICE_SHARE) * PRICE_SHARE
+        if searches > PRICE_SHARE * self.for_prices:
+            searches = work - (OF_PRICES - 1) * self.for_prices
         return max(0, int(searches))
 
     def correct(self, searches: int, seconds: float) -> None:
@@ -140,17 +142,17 @@ class Polish:
         self.run.progress.line(b"%s %d" % (self.word, self.run.total))
 
     def going(self) -> list[Job]:
-        return [it.data for it in self.jobs.get_map().values()]
+        return [key.data for key in self.jobs.get_map().values()]
 
     def whole_runs(self) -> list[Job]:
-        return [it for it in self.going() if not it.is_slice]
+        return [job for job in self.going() if not job.is_slice]
 
-    def left(self) -> float | None:
-        """How many seconds are left, where the time is given."""
-        return None if self.course.end is None else self.course.end - time.monotonic()
+    def left(self) -> float:
+        """How many seconds are left; no end if no time is given."""
+        return math.inf if self.course.end is None else self.course.end - time.monotonic()
 
     def is_open(self) -> bool:
-        """Whether the time says how much is searched, so that something may come until it is over."""
+        """Whether the time decides how much is searched, so that something may come until it is over."""
         return self.course.searches is None
 
     def is_least(self) -> bool:
@@ -165,7 +167,7 @@ class Polish:
         words = ["polish", "--searches", str(searches), "--seed", str(seed % SEEDS), *run.words]
         running = run.roster.start(words, texts.joined, NICENESS if is_slice and self.whole_runs() else 0)
         job = Job(number, seed % SEEDS, searches, is_slice, texts, running)
-        self.jobs.register(running.ran.stderr, selectors.EVENT_READ, job)
+        self.jobs.register(running.stderr, selectors.EVENT_READ, job)
 
     def start_slice(self, searches: int) -> None:
         self.slices += 1
@@ -188,14 +190,14 @@ class Polish:
         return BUSY_SHARE if self.pace.is_busy else FIRST_SHARE
 
     def next_seed(self) -> int | None:
-        """The seed of the next whole run. Where the time says how much is searched, each run after these has the next one."""
+        """The seed of the next whole run. If the time decides how much is searched, each run after these has the next one."""
         seeds = self.course.seeds
         if self.begun < len(seeds):
             return seeds[self.begun]
         return seeds[-1] + self.begun + 1 - len(seeds) if self.is_open() and not self.whole_runs() else None
 
     def searches(self) -> int:
-        """How many searches the next whole run has: where the time says it, as many as take a share of what is left."""
+        """How many searches the next whole run has: if the time decides it, as many as take a share of what is left."""
         if self.course.searches is not None:
             return self.course.searches
         turns = max(1, -(-(len(self.course.seeds) - self.begun) // len(os.sched_getaffinity(0))))
@@ -209,12 +211,12 @@ class Polish:
     # ---- what comes
 
     def take(self, job: Job) -> None:
-        """Takes the lines that have come of a run, and its roster where it is over."""
+        """Takes the lines that have come of a run, and its roster if it is over."""
         for line in job.running.lines():
             if line.startswith((b"fade ", b"kick ")) and not job.is_slice:
-                self.tell(line)
+                self.pass_on(line)
         if job.running.is_over:
-            self.jobs.unregister(job.running.ran.stderr)
+            self.jobs.unregister(job.running.stderr)
             with contextlib.closing(job.running):
                 answer = job.running.taken(job.texts)
             self.run.searches += job.searches
@@ -227,15 +229,15 @@ class Polish:
         total, took = number_of(answer.end()), job.seconds()
         if total < self.run.total:
             self.keep(answer, f"slice {job.number} of polish")
-            self.tell(b"slice %d %d" % (job.number, total))
+            self.pass_on(b"slice %d %d" % (job.number, total))
         elif total == self.run.total:
             # (it settles the roster that it is given, and didn't change it)
             self.word = word_of(answer)
         if not self.begun:
-            # (those beside whole runs are slower)
+            # (those that go on next to whole runs are slower)
             self.pace.learn(job.searches, took, job.running.of_processor)
-        grown = min(GROWTH * job.searches, int(SECONDS * job.searches / took), MOST_SEARCHES)
-        self.start_slice(self.course.slice_ or max(1, grown))
+        longer = min(LONGER * job.searches, int(SECONDS * job.searches / took), MOST_SEARCHES)
+        self.start_slice(self.course.slice_ or max(1, longer))
 
     def take_whole(self, job: Job, answer: Answer) -> None:
         total = number_of(answer.end())
@@ -254,12 +256,13 @@ class Polish:
 
     def keep_first(self) -> None:
         """Of equally dear rosters of whole runs the first stays, whichever was over first."""
-        total, number, answer = min(self.ended, default=(0, 0, None))
-        if answer and total == self.run.total:
-            self.keep(answer, f"run {number} of polish")
+        if self.ended:
+            total, number, answer = min(self.ended, key=lambda ended: ended[:2])
+            if total == self.run.total:
+                self.keep(answer, f"run {number} of polish")
 
-    def tell(self, line: bytes) -> None:
-        """Passes on a line, where the roster is cheaper than all before."""
+    def pass_on(self, line: bytes) -> None:
+        """Passes on a line if the roster is cheaper than all before."""
         if number_of(line) < self.least:
             self.least = number_of(line)
             self.run.progress.line(line)

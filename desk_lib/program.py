@@ -1,4 +1,5 @@
 """How the desk finds the program `roster`, and calls it. Each call gets the texts on standard input."""
+import collections.abc
 import ctypes
 import dataclasses
 import os
@@ -18,7 +19,7 @@ VARIABLE = "DESK_ROSTER"
 LIBC = ctypes.CDLL(None)
 # (the number of this call of prctl, which Python doesn't name)
 SET_DEATH_SIGNAL = 1
-# So much of a log is read at once, in bytes.
+# How much of a log is read at once, in bytes.
 AT_ONCE = 65_536
 
 
@@ -33,36 +34,45 @@ class Answer:
     def end(self) -> bytes:
         """The last line of the log of a run."""
         if not self.log:
-            raise DeskError("the program ended a run and told nothing of it; --roster names the program roster", 3)
+            raise DeskError("the program ended a run and said nothing of it; --roster names the program roster", 3)
         return self.log[-1]
 
     def last(self) -> str:
         return shown(self.log[-1]) if self.log else f"status {self.status}"
 
 
-OnLine = typing.Callable[[bytes], None]
+OnLine = collections.abc.Callable[[bytes], None]
 
 
 class Running:
     """The program at work. Used by `with`, it doesn't go on afterwards.
 
     The text and the output lie in memory. The program has a process group of its own: Ctrl-C is the desk's alone; and it ends
-    with the desk, however that ends, or after so many seconds.
+    with the desk, however that ends, or after that many seconds, if a number is given.
     """
 
     def __init__(self, path: str, words: list[str], text: bytes, niceness: int = 0, seconds: float = 0):
-        self.words, self.log, self.rest, self.is_over = words, [], b"", False
+        self.words, self.rest, self.is_over = words, b"", False
+        self.log: list[bytes] = []
         # (how many seconds of a processor it took, once it is over)
         self.of_processor = 0.0
         self.output, desk = open(os.memfd_create("output"), "w+b"), os.getpid()
         with open(os.memfd_create("input"), "w+b") as given:
             given.write(text)
             given.seek(0)
-            how = {"stdin": given, "stdout": self.output, "stderr": subprocess.PIPE, "bufsize": 0}
             try:
-                self.ran = subprocess.Popen([path, *words], preexec_fn=lambda: tie_to(desk, niceness, seconds), **how)
+                self.ran = subprocess.Popen(
+                    [path, *words],
+                    bufsize=0,
+                    stdin=given,
+                    stdout=self.output,
+                    stderr=subprocess.PIPE,
+                    preexec_fn=lambda: tie_to(desk, niceness, seconds),
+                )
             except OSError as why:
                 raise DeskError(f"{shown(path)} can't be run: {why.strerror}; --roster names the program", 3) from None
+        assert self.ran.stderr
+        self.stderr: typing.IO[bytes] = self.ran.stderr
 
     def __enter__(self) -> "Running":
         return self
@@ -75,12 +85,12 @@ class Running:
         if self.ran.poll() is None:
             self.ran.kill()
             self.ran.wait()
-        self.ran.stderr.close()
+        self.stderr.close()
         self.output.close()
 
     def lines(self) -> list[bytes]:
-        """The lines of the log that have come since. Waits for some; where none come any more, the run is over."""
-        data = self.ran.stderr.read(AT_ONCE)
+        """The lines of the log that have come since. Waits for some; if none come any more, the run is over."""
+        data = self.stderr.read(AT_ONCE)
         *lines, self.rest = (self.rest + data).split(b"\n")
         if not data:
             self.is_over, lines = True, [self.rest] if self.rest else []
@@ -89,8 +99,8 @@ class Running:
 
     def lines_there(self) -> list[bytes]:
         """As `lines`, and waits for none. What has no line end is left out: the program may have been ended within it."""
-        found = []
-        while not self.is_over and select.select([self.ran.stderr], [], [], 0)[0]:
+        found: list[bytes] = []
+        while not self.is_over and select.select([self.stderr], [], [], 0)[0]:
             lines = self.lines()
             found += [] if self.is_over else lines
         return found
@@ -112,18 +122,18 @@ class Running:
 
 
 def refusal(words: str, answer: Answer, texts: Texts) -> DeskError:
-    """What is told where the program with these words answers another status than 0."""
+    """The error if the program with these words answers another status than 0."""
     if answer.status == 2:
         return unknown(words)
     if answer.status < 0:
         return DeskError(f"'roster {words.split()[0]}' was ended by {signal.Signals(-answer.status).name}", 3)
-    told = f"{located(answer.last(), texts)}; 'desk check' with these files tells all that is wrong"
-    return DeskError(told, answer.status)
+    message = f"{located(answer.last(), texts)}; 'desk check' with these files reports all that is wrong"
+    return DeskError(message, answer.status)
 
 
 def tie_to(desk: int, niceness: int, seconds: float) -> None:
-    """In the new process, before it is the program: it is to end with the desk, and after some seconds where there are any; and
-    to be as nice as it is to be."""
+    """In the new process, before it is the program: sees to it that it ends with the desk, and after some seconds if a number is given,
+    and that it is as nice as it is to be."""
     LIBC.prctl(SET_DEATH_SIGNAL, signal.SIGKILL)
     if os.getppid() != desk:
         os._exit(1)
@@ -159,7 +169,7 @@ class Program:
             return running.taken(texts)
 
     def must_know(self, command: str) -> None:
-        """Stops where the program doesn't know a command."""
+        """Stops if the program doesn't know a command."""
         if self.call([command, "--help"], b"").status:
             raise unknown(command)
 
@@ -173,18 +183,18 @@ def follow(running: Running, on_line: OnLine | None = None) -> None:
 
 
 def unknown(command: str) -> DeskError:
-    told = f"the program doesn't know 'roster {command}'; build a newer one, or leave that option out"
-    return DeskError(f"{told} ('roster --help' lists its commands)", 2)
+    message = f"the program doesn't know 'roster {command}'; build a newer one, or leave that option out"
+    return DeskError(f"{message} ('roster --help' lists its commands)", 2)
 
 
 def located(line: str, texts: Texts) -> str:
-    """A fault line of the program, with its file and the line there in place of the line of all files together."""
-    told = re.fullmatch(r"line (\d+): (.*)", line, re.S)
-    return f"{texts.place(texts.line_start(int(told[1])))}: {told[2]}" if told else line
+    """A fault line of the program, with its file and the line there instead of the line of all files together."""
+    match = re.fullmatch(r"line (\d+): (.*)", line, re.S)
+    return f"{texts.place(texts.line_start(int(match[1])))}: {match[2]}" if match else line
 
 
 def find(path: str | None) -> Program:
-    """The program: the one named, or that of this repository, which is built where it has to be."""
+    """The program: the one named, or that of this repository, which is built if need be."""
     path = path or os.environ.get(VARIABLE)
     if path:
         return known(Program(path))
@@ -197,12 +207,12 @@ def find(path: str | None) -> Program:
 
 
 def known(program: Program) -> Program:
-    """The program, where it says that it is roster."""
+    """The program, if it says that it is roster."""
     answer = program.call(["--version"], b"")
     if answer.status or not answer.output.startswith(b"roster "):
         said = shown(answer.output.split(b"\n")[0][:40]) or answer.last()
-        told = f"{shown(program.path)} isn't the program roster: to '--version' it answers '{said}'"
-        raise DeskError(f"{told}; --roster or {VARIABLE} names the program", 3)
+        message = f"{shown(program.path)} isn't the program roster: to '--version' it answers '{said}'"
+        raise DeskError(f"{message}; --roster or {VARIABLE} names the program", 3)
     return program
 
 
@@ -224,7 +234,7 @@ def plan_in(texts: Texts) -> Plan:
 
 
 def costs_by(program: Program, texts: Texts) -> dict[str, int]:
-    """The penalties of the rules, and their total, as the program tells them."""
+    """The penalties of the rules, and their total, as the program prints them."""
     output = program.ask(["cost"], texts).output.decode()
     return {name: int(number) for name, number in (line.split() for line in output.splitlines())}
 

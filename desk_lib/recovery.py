@@ -1,4 +1,4 @@
-"""A second reading of refused texts, section by section and line by line, which goes on after a fault and tells each."""
+"""A second reading of refused texts, section by section and line by line, which goes on after a fault and notes each."""
 import collections
 import collections.abc
 import contextlib
@@ -25,9 +25,9 @@ LINES = {
     b"FIXED": grammar.absence_line,
     b"ASSIGNMENTS": grammar.assignment_line,
 }
-# So many faults are told, and for the first of them a keyword is looked for that a word may be meant to be.
+# How many faults are reported, and for how many of them a keyword is looked for that a word may be meant to be.
 MOST, MEANT = 10_000, 1_000
-# A name with blanks is looked for in lines of so many words, and has at most so many.
+# How many words a line may have in which a name with blanks is looked for, and how many such a name may have.
 LONGEST_LINE, LONGEST_NAME = 60, 4
 # The sections that declare names.
 DECLARING = {b"SCENARIO", b"SKILLS", b"SHIFT_TYPES", b"CONTRACTS", b"NURSES"}
@@ -62,10 +62,10 @@ class Recovery:
         heads = self.heads()
         for (at, keyword), (end, _) in zip(heads, [*heads[1:], (len(self.list), b"")]):
             self.take(keyword, self.section(keyword, at, end))
-        self.tell_blanks()
+        self.note_blanks()
         self.check_parts()
 
-    def tell(self, at: int, message: str, last: int | None = None) -> None:
+    def note(self, at: int, message: str, last: int | None = None) -> None:
         """Notes a fault of the word of this number, or of all words from it to the last."""
         if len(self.findings) >= MOST:
             self.left_out += 1
@@ -76,10 +76,10 @@ class Recovery:
             place = dataclasses.replace(place, length=length)
         self.findings.append(Finding(offset, place, message))
 
-    def tell_fault(self, fault: Fault, end: int) -> None:
-        """Notes a fault of grammar in words that end there: at the last of them where one more is due."""
+    def note_fault(self, fault: Fault, end: int) -> None:
+        """Notes a fault of grammar in words that end there: at the last of them if one more is due."""
         is_inside = fault.at < end
-        self.tell(fault.at if is_inside else end - 1, said(fault, self.words.words[fault.at] if is_inside else None))
+        self.note(fault.at if is_inside else end - 1, said(fault, self.words.words[fault.at] if is_inside else None))
 
     # ---- sections
 
@@ -104,25 +104,25 @@ class Recovery:
         return found
 
     def meant(self, at: int, word: bytes) -> bytes:
-        """The keyword that an unknown one is meant to be, or that word itself. Tells of it."""
+        """The keyword that an unknown one is meant to be, or that word itself. Notes that."""
         near = nearest_names(word, frozenset(READERS)) if len(self.findings) < MEANT else []
-        self.tell(at, f"no section is named '{shown(word)}'{f'; nearest: {near[0]}' if near else ''}")
+        self.note(at, f"no section is named '{shown(word)}'{f'; nearest: {near[0]}' if near else ''}")
         return near[0].encode() if near else word
 
     def section(self, keyword: bytes, at: int, end: int) -> Section:
-        """The section from one word to another; where it can't be read as a whole, line by line."""
+        """The section from one word to another; if it can't be read as a whole, line by line."""
         cursor, section = Cursor(self.list, at, end), Section(keyword.decode(), at)
         try:
             self.as_whole(keyword, cursor, section)
             if cursor.at == end:
                 return section
             fault = Fault(cursor.at, "next section")
-        except Fault as told:
-            fault = told
+        except Fault as first:
+            fault = first
         if keyword in LINES:
             return self.by_lines(keyword, at, end, Section(keyword.decode(), at))
-        if not self.has_blank(keyword, lambda it: READERS[keyword](it, Section(keyword.decode(), at)), at, end):
-            self.tell_fault(fault, end)
+        if not self.has_blank(keyword, lambda words: READERS[keyword](words, Section(keyword.decode(), at)), at, end):
+            self.note_fault(fault, end)
         return section
 
     def as_whole(self, keyword: bytes, cursor: Cursor, section: Section) -> None:
@@ -138,7 +138,7 @@ class Recovery:
         lines = self.lines(first, end)
         if keyword not in UNCOUNTED and section.count != len(lines) and first > at + 2:
             follow = "1 line follows" if len(lines) == 1 else f"{len(lines)} lines follow"
-            self.tell(at + 2, f"{section.keyword} says {section.count}, and {follow} it")
+            self.note(at + 2, f"{section.keyword} says {section.count}, and {follow} it")
         for start, stop in lines:
             cursor = Cursor(self.list, start, stop)
             try:
@@ -146,19 +146,19 @@ class Recovery:
                 if cursor.at == stop or not self.has_blank(keyword, LINES[keyword], start, stop):
                     section.lines.append(line)
                     if cursor.at < stop:
-                        self.tell(cursor.at, "the line has more words than a line of this section", stop - 1)
+                        self.note(cursor.at, "the line has more words than a line of this section", stop - 1)
                     continue
             except Fault as fault:
                 if not self.has_blank(keyword, LINES[keyword], start, stop):
-                    self.tell_fault(fault, stop)
+                    self.note_fault(fault, stop)
             self.broken[keyword].append(self.words.words[start])
         return section
 
     # ---- names with blanks
 
     def has_blank(self, keyword: bytes, read: collections.abc.Callable[[Cursor], object], start: int, stop: int) -> bool:
-        """Whether these words of a section can be read where names with blanks are one word each: those that were noted
-        before, and one more, the first and shortest, where names are declared. Notes them."""
+        """Whether these words of a section can be read if names with blanks are one word each: those that were noted before, and one
+        more, the first and shortest, if the section declares names. Notes them."""
         if not 0 < stop - start <= LONGEST_LINE:
             return False
         words = self.joined(start, stop)
@@ -185,16 +185,16 @@ class Recovery:
         while at < stop:
             counts = range(min(LONGEST_NAME, stop - at), 1, -1)
             names = ((count, b" ".join(self.list[at : at + count])) for count in counts)
-            count, name = next((it for it in names if it[1] in self.blanks), (1, self.list[at]))
+            count, name = next((found for found in names if found[1] in self.blanks), (1, self.list[at]))
             found.append((name, at))
             at += count
         return found
 
-    def tell_blanks(self) -> None:
+    def note_blanks(self) -> None:
         for name, places in self.blanks.items():
-            told = f"'{shown(name)}' is more words than one, and a name has no blank; write it as one, say as"
-            told += f" '{shown(name.replace(b' ', b'_'))}', wherever it stands{also(len(places) - 1)}"
-            self.tell(places[0], told, places[0] + name.count(b" "))
+            message = f"'{shown(name)}' is more words than one, and a name has no blank; write it as one, say as"
+            message += f" '{shown(name.replace(b' ', b'_'))}', wherever it stands{also(len(places) - 1)}"
+            self.note(places[0], message, places[0] + name.count(b" "))
 
     # ---- counts and lines
 
@@ -205,13 +205,13 @@ class Recovery:
             cursor.word("=")
             section.count = cursor.number(grammar.COUNT)
         except Fault as fault:
-            self.tell_fault(fault, end)
+            self.note_fault(fault, end)
             cursor.at += fault.greatest is not None
         return cursor.at
 
     def lines(self, first: int, end: int) -> list[tuple[int, int]]:
         """The lines of these words: from which word, and to which."""
-        starts = [it for it in range(first, end) if it == first or self.begins_line(it)]
+        starts = [at for at in range(first, end) if at == first or self.begins_line(at)]
         return list(zip(starts, [*starts[1:], end])) if first < end else []
 
     # ---- parts
@@ -223,74 +223,73 @@ class Recovery:
         if keyword in PARTS:
             self.parts.append(Found(PARTS[keyword], section.at, {keyword: section}))
             return
-        kind = next(it for it, sections in SECTIONS_OF.items() if keyword in sections)
+        kind = next(kind for kind, sections in SECTIONS_OF.items() if keyword in sections)
         if not self.parts or self.parts[-1].kind != kind:
-            self.tell(section.at, f"{section.keyword} is a section of {a(kind)}, and stands in none")
+            self.note(section.at, f"{section.keyword} is a section of {a(kind)}, and stands in none")
         elif keyword in self.parts[-1].sections:
-            self.tell(section.at, f"{section.keyword} stands a second time in this {kind}")
+            self.note(section.at, f"{section.keyword} stands a second time in this {kind}")
         else:
             self.parts[-1].sections[keyword] = section
 
     def check_parts(self) -> None:
-        """Tells of sections that parts lack or have in another order."""
+        """Notes sections that parts lack or have in another order."""
         for part in self.parts:
-            due = [it for it in SECTIONS_OF[part.kind] if it not in grammar.OPTIONAL]
-            lacking = [it.decode() for it in due if it not in part.sections]
+            needed = [keyword for keyword in SECTIONS_OF[part.kind] if keyword not in grammar.OPTIONAL]
+            lacking = [keyword.decode() for keyword in needed if keyword not in part.sections]
             if lacking:
-                self.tell(part.at, f"this {part.kind} has no section {' and no '.join(lacking)}")
+                self.note(part.at, f"this {part.kind} has no section {' and no '.join(lacking)}")
                 continue
-            order = [it for it in SECTIONS_OF[part.kind] if it in part.sections]
+            order = [keyword for keyword in SECTIONS_OF[part.kind] if keyword in part.sections]
             for (keyword, section), due in zip(part.sections.items(), order):
                 if keyword != due:
-                    told = f"the order is {', '.join(map(bytes.decode, order))}"
-                    self.tell(section.at, f"{keyword.decode()} stands before {due.decode()}; {told}")
+                    right = f"the order is {', '.join(map(bytes.decode, order))}"
+                    self.note(section.at, f"{keyword.decode()} stands before {due.decode()}; {right}")
                     break
 
     def of_kind(self, kind: str) -> list[Found]:
-        return [it for it in self.parts if it.kind == kind]
+        return [part for part in self.parts if part.kind == kind]
 
     def check_order(self) -> None:
-        """Tells of files under a wrong option, of parts in a wrong order, and of how many there are."""
+        """Notes files under a wrong option, parts in a wrong order, and wrong numbers of them."""
         self.check_options()
         kinds = [*PARTS.values()]
         for before, part in zip(self.parts, self.parts[1:]):
             if kinds.index(part.kind) < kinds.index(before.kind):
-                self.tell(part.at, f"{a(part.kind)} stands here, after {a(before.kind)}; {ORDER}")
+                self.note(part.at, f"{a(part.kind)} stands here, after {a(before.kind)}; {ORDER}")
                 break
         for kind in ("scenario", "history"):
             found = self.of_kind(kind)
             if not found:
                 self.findings.append(Finding(-1, None, f"no {kind} is among the files; give one"))
-            for it in found[1:]:
-                self.tell(it.at, f"a second {kind} stands here; give one alone")
+            for part in found[1:]:
+                self.note(part.at, f"a second {kind} stands here; give one alone")
         self.check_weeks()
 
     def check_options(self) -> None:
-        """Tells of files that aren't what their option says."""
+        """Notes files that aren't what their option says."""
         texts = self.words.texts
         for start, end, text in zip(texts.starts, texts.starts[1:], texts.texts):
-            within = [it for it in self.parts if start <= self.words.offset(it.at) < end]
+            within = [part for part in self.parts if start <= self.words.offset(part.at) < end]
             due = KINDS.get(text.kind, "")
-            for it in within:
-                if due and it.kind != due:
-                    self.tell(
-                        it.at, f"--{text.kind} names this file, and it has {a(it.kind)}; that belongs to another option"
-                    )
+            for part in within:
+                if due and part.kind != due:
+                    message = f"--{text.kind} names this file, and it has {a(part.kind)}; that belongs to another option"
+                    self.note(part.at, message)
 
     def check_weeks(self) -> None:
-        """Tells where there aren't as many week data and solutions as the scenario says."""
+        """Notes if there aren't as many week data and solutions as the scenario says."""
         scenario = self.of_kind("scenario")
         weeks = scenario[0].sections.get(b"WEEKS") if scenario else None
         data, solutions = self.of_kind("week data"), self.of_kind("solution")
         # (without any solutions the texts are those of a roster to come)
         if weeks and (len(data) != weeks.count or solutions and len(solutions) != weeks.count):
-            told = f"WEEKS says {weeks.count}, and there are {len(data)} week data and {len(solutions)} solutions"
-            self.tell(weeks.at + 2, f"{told}{self.lacking_weeks(weeks.count, solutions)}")
+            message = f"WEEKS says {weeks.count}, and there are {len(data)} week data and {len(solutions)} solutions"
+            self.note(weeks.at + 2, f"{message}{self.lacking_weeks(weeks.count, solutions)}")
 
     def lacking_weeks(self, weeks: int, solutions: list[Found]) -> str:
-        """A clause for the weeks that no solution is of, where some lack."""
-        there = {it.sections[b"SOLUTION"].count for it in solutions}
-        lacking = [str(it) for it in range(weeks) if it not in there]
+        """A clause for the weeks that no solution is of, if some lack one."""
+        there = {part.sections[b"SOLUTION"].count for part in solutions}
+        lacking = [str(week) for week in range(weeks) if week not in there]
         return f"; none is of week {', '.join(lacking)}" if solutions and 0 < len(lacking) < 6 else ""
 
     def has_all_weeks(self) -> bool:
@@ -306,10 +305,10 @@ def a(kind: str) -> str:
 
 
 def said(fault: Fault, word: bytes | None) -> str:
-    """A fault of grammar in words: what is due, and what stands in its place."""
+    """A fault of grammar in words: what is due, and what stands there instead."""
     here = f"'{shown(word)}' stands" if word is not None else "the line ends"
     if fault.greatest is not None:
-        return f"'{shown(word)}' stands here, and a number from 0 to {fault.greatest} is due"
+        return f"'{shown(word or b'')}' stands here, and a number from 0 to {fault.greatest} is due"
     due = fault.due if fault.due.isupper() else f"'{fault.due}'" if fault.due in "=()," else f"a {fault.due}"
     like = nearest(word or b"", grammar.DAYS + grammar.LONG_DAYS) if fault.due == "day" else ""
     return f"{due} is due, and {here} here{like}"

@@ -1,4 +1,4 @@
-"""Files that are replaced as a whole: written beside, read back, and renamed. None is left half written."""
+"""Files that are replaced as a whole: written next to the old one, read back, and renamed. None is left half written."""
 import collections.abc
 import contextlib
 import errno
@@ -11,22 +11,23 @@ from desk_lib.program import Program
 from desk_lib.signals import held_back
 from desk_lib.texts import DeskError, Text, Texts, shown
 
-# What to do where a file can't be written, by the error; and for all others.
-REMEDIES = dict.fromkeys((errno.ENOSPC, errno.EDQUOT), "make room on that disk, or give a name on another")
+# What to do if a file can't be written, by the error; and for all others.
+REMEDIES = dict.fromkeys((errno.ENOSPC, errno.EDQUOT), "free some space on that disk, or give a name on another")
 REMEDY = "give a name in a folder that can be written"
 
 
 def failed(name: str, why: OSError) -> DeskError:
-    told = f"{shown(name)}: write failed: {why.strerror}; nothing was replaced"
-    return DeskError(f"{told}; {REMEDIES.get(why.errno, REMEDY)}", 3)
+    message = f"{shown(name)}: write failed: {why.strerror}; nothing was replaced"
+    return DeskError(f"{message}; {REMEDIES.get(why.errno or 0, REMEDY)}", 3)
 
 
 class Replacement:
-    """A new text for a file, which lies beside it until it is put in its place. Used by `with`, it leaves nothing beside."""
+    """A new text for a file, which lies in a temporary file next to it until it is put in its place. Used by `with`, it leaves no
+    temporary file."""
 
     def __init__(self, name: str, data: bytes):
-        # where the name is a link, the file to which it leads is replaced
-        self.name, self.path, self.beside = name, os.path.realpath(name), ""
+        # (if the name is a link, the file to which it leads is replaced)
+        self.name, self.path, self.temporary = name, os.path.realpath(name), ""
         self.data = data
 
     def __enter__(self) -> "Replacement":
@@ -42,14 +43,14 @@ class Replacement:
         return self
 
     def __exit__(self, *_: object) -> None:
-        if self.beside:
+        if self.temporary:
             with contextlib.suppress(OSError):
-                os.unlink(self.beside)
+                os.unlink(self.temporary)
 
     def write(self) -> None:
-        """Writes the new file beside, with the mode and the owner of the old one."""
+        """Writes the temporary file, with the mode and the owner of the old one."""
         old = self.old()
-        handle, self.beside = tempfile.mkstemp(prefix=".desk-", dir=os.path.dirname(self.path))
+        handle, self.temporary = tempfile.mkstemp(prefix=".desk-", dir=os.path.dirname(self.path))
         with open(handle, "wb") as file:
             file.write(self.data)
             if old:
@@ -67,32 +68,32 @@ class Replacement:
         if not stat.S_ISREG(there.st_mode):
             raise DeskError(f"{shown(self.name)}: no regular file; give the name of one, or of none", 3)
         if not there.st_mode & 0o222 or not os.access(self.path, os.W_OK):
-            told = f"{shown(self.name)}: the file is write-protected, and isn't replaced"
-            raise DeskError(f"{told}; give another name, or allow it by 'chmod u+w'", 3)
+            message = f"{shown(self.name)}: the file is write-protected, and isn't replaced"
+            raise DeskError(f"{message}; give another name, or allow it by 'chmod u+w'", 3)
         return there
 
     def keep_owner(self, handle: int, old: os.stat_result) -> None:
-        """Gives the new file to the owner of the old one. Where that can't be, the old one stays."""
+        """Gives the new file to the owner of the old one. If that can't be, the old one stays."""
         new = os.fstat(handle)
         if (new.st_uid, new.st_gid) != (old.st_uid, old.st_gid):
             try:
                 os.fchown(handle, old.st_uid, old.st_gid)
             except PermissionError:
-                told = f"{shown(self.name)}: the file belongs to another user or group, and a new one would be yours"
-                raise DeskError(f"{told}; give another name", 3) from None
+                message = f"{shown(self.name)}: the file belongs to another user or group, and a new one would be yours"
+                raise DeskError(f"{message}; give another name", 3) from None
 
     def read(self) -> bytes:
-        """The bytes that lie beside."""
-        with open(self.beside, "rb") as file:
+        """The bytes of the temporary file."""
+        with open(self.temporary, "rb") as file:
             return file.read()
 
     def put(self) -> None:
         """Puts the new file in the place of the old one, at once."""
         try:
-            os.replace(self.beside, self.path)
+            os.replace(self.temporary, self.path)
         except OSError as why:
             raise failed(self.name, why) from None
-        self.beside = ""
+        self.temporary = ""
         # (some file systems can't)
         with contextlib.suppress(OSError):
             sync(os.path.dirname(self.path))
@@ -115,7 +116,7 @@ def mode_of_new() -> int:
 
 
 def bytes_of(name: str) -> bytes | None:
-    """What a file has; None where it can't be read, or isn't there."""
+    """What a file has; None if it can't be read, or isn't there."""
     try:
         with open(name, "rb") as file:
             return file.read()
@@ -123,18 +124,22 @@ def bytes_of(name: str) -> bytes | None:
         return None
 
 
-def keep_beside(name: str, data: bytes) -> str:
-    """Writes a file beside one of this name, under a name that no file has, and returns that."""
-    for number in itertools.count(1):
-        beside = f"{name}.kept-{number}"
-        try:
-            with open(beside, "xb") as file:
-                file.write(data)
-            return beside
-        except FileExistsError:
-            continue
-        except OSError as why:
-            raise failed(beside, why) from None
+def keep_next_to(name: str, data: bytes) -> str:
+    """Writes a file next to one of this name, under a name that no file has, and returns that."""
+    kept = next(kept for kept in (f"{name}.kept-{number}" for number in itertools.count(1)) if write_new(kept, data))
+    return kept
+
+
+def write_new(name: str, data: bytes) -> bool:
+    """Writes a file that isn't there yet; says whether that is so."""
+    try:
+        with open(name, "xb") as file:
+            file.write(data)
+        return True
+    except FileExistsError:
+        return False
+    except OSError as why:
+        raise failed(name, why) from None
 
 
 @contextlib.contextmanager
@@ -142,10 +147,10 @@ def read_back(
     roster: Program, texts: Texts, solutions: bytes, files: list[tuple[str, bytes]]
 ) -> collections.abc.Iterator[list[Replacement]]:
     """New files that hold the solutions, which the program wrote for the texts, once it has read all of them back to the same
-    bytes. They lie beside the old ones, and those that aren't put go."""
+    bytes. They lie in temporary files, and those that aren't put go."""
     with contextlib.ExitStack() as stack:
         new = [stack.enter_context(Replacement(name, data)) for name, data in files]
-        back = Texts([*texts.texts, *(Text(it.name, it.read()) for it in new)])
+        back = Texts([*texts.texts, *(Text(file.name, file.read()) for file in new)])
         answer = roster.ask(["show"], back)
         if answer.output != solutions:
             raise DeskError(

@@ -3,12 +3,11 @@ import dataclasses
 import datetime
 import functools
 
-from reckoning import is_frozen
-
-from desk_lib.breaches import all_breaches, frozen_changes, words_told
+from desk_lib.breaches import all_breaches, breach_lines, frozen_changes
+from desk_lib.case import Choice, Roster, ShiftSkill
 from desk_lib.costs import Costing
-from desk_lib.days import day_name, day_place
-from desk_lib.model import Choice, Roster, choice_name
+from desk_lib.days import day_name, day_text
+from desk_lib.model import choice_name
 from desk_lib.texts import plural, shown
 
 SPARE = "0123456789"
@@ -51,28 +50,28 @@ def letters(names: list[bytes]) -> list[str]:
     """A letter for each name, each another: its first one, or the first that is left, or a digit."""
     taken: list[str] = []
     for name in map(shown, names):
-        wanted = [it.upper() for it in name if it.isascii() and it.isalnum()] + [*SPARE]
-        taken.append(next(it for it in wanted if it not in taken))
+        wanted = [letter.upper() for letter in name if letter.isascii() and letter.isalnum()] + [*SPARE]
+        taken.append(next(letter for letter in wanted if letter not in taken))
     return taken
 
 
 class Sheet:
-    """A roster to be shown, compared with another one where that is given. Weeks before `first_week` are frozen, and the first
-    begins on the Monday `start` where that is known."""
+    """A roster to be shown, compared with another one if that is given. Weeks before `first_week` are frozen, and the first begins on
+    the Monday `start` if that is known."""
 
     def __init__(self, costing: Costing, before: Roster | None, first_week: int, start: datetime.date | None = None):
         self.costing, self.case, self.start = costing, costing.case, start
         self.weeks, self.first_week, self.is_compared = range(self.case.weeks), first_week, before is not None
-        # (what the roster breaks; and what the other one breaks, where there is one)
+        # (what the roster breaks; and what the other one breaks, if there is one)
         self.breaches = [*all_breaches(costing.plan), *frozen_changes(costing.plan, before or costing.plan.roster, first_week)]
         self.breaches_before = all_breaches(dataclasses.replace(costing.plan, roster=before)) if before else []
         self.broken: dict[tuple[int, int], tuple[str, ...]] = {}
-        for it in self.breaches:
-            if it.rule != "H2":
-                at = it.of[0], it.day
-                self.broken[at] = *self.broken.get(at, ()), it.more
-        self.shift_letters = letters([it.name for it in self.case.shifts])
-        self.skill_letters = [it.lower() for it in letters(self.case.skills)]
+        for breach in self.breaches:
+            if breach.rule != "H2":
+                at = breach.nurse, breach.day
+                self.broken[at] = *self.broken.get(at, ()), breach.more
+        self.shift_letters = letters([shift.name for shift in self.case.shifts])
+        self.skill_letters = [letter.lower() for letter in letters(self.case.skills)]
         self.rows = [
             [self.cell(number, day, before) for day in range(costing.plan.days)] for number in range(len(self.case.nurses))
         ]
@@ -99,59 +98,59 @@ class Sheet:
     def cell(self, number: int, day: int, before: Roster | None) -> Cell:
         row = self.costing.plan.roster[number]
         old = before[number][day] if before else row[day]
-        asked, missed = self.costing.breaks_request(number, day, row), self.costing.misses_wish(number, day, row)
-        is_absent, is_held = (number, day) in self.case.absences, is_frozen(self.case, number, day, self.first_week)
+        asked, missed = self.costing.breaks_request(number, day, row[day]), self.costing.misses_wish(number, day, row[day])
+        is_absent, is_held = (number, day) in self.case.absences, self.case.is_frozen(number, day, self.first_week)
         return Cell(row[day], old, old != row[day], asked, missed, is_absent, is_held, self.broken.get((number, day), ()))
 
     def date(self, day: int) -> datetime.date | None:
         return self.start + datetime.timedelta(day) if self.start else None
 
     def day_name(self, day: int) -> str:
-        """A day in words, with its date where that is known."""
+        """A day in words, with its date if that is known."""
         date = self.date(day)
-        return day_place(day) + (f", {date_name(date)}" if date else "")
+        return day_text(day) + (f", {date_name(date)}" if date else "")
 
-    def told(self, number: int, day: int, without_requests: bool = False) -> str:
+    def cell_text(self, number: int, day: int, without_requests: bool = False) -> str:
         """A day of a nurse in words."""
         cell = self.rows[number][day]
-        parts = [f"{shown(self.case.nurses[number].name)}, {self.day_name(day)}: {choice_name(self.case, cell.choice)}"]
-        parts += [f"before: {choice_name(self.case, cell.before)}"] if cell.is_changed else []
+        clauses = [f"{shown(self.case.nurses[number].name)}, {self.day_name(day)}: {choice_name(self.case, cell.choice)}"]
+        clauses += [f"before: {choice_name(self.case, cell.before)}"] if cell.is_changed else []
         if not without_requests:
-            parts += ["an off request isn't met"] * cell.breaks_request + ["a wish isn't met"] * cell.misses_wish
-        return "; ".join([*parts, *["absent"] * cell.is_absent, *cell.broken, *["frozen"] * cell.is_frozen])
+            clauses += ["an off request isn't met"] * cell.breaks_request + ["a wish isn't met"] * cell.misses_wish
+        return "; ".join([*clauses, *["absent"] * cell.is_absent, *cell.broken, *["frozen"] * cell.is_frozen])
 
-    def told_breaches(self) -> list[str]:
+    def breach_lines(self) -> list[str]:
         """What the roster breaks, or the one before, a line for each, below a line that says how many."""
         for found, which in (self.breaches, "This roster"), (self.breaches_before, "The first roster"):
             if found:
-                return [f"{which} breaks {plural(len(found), 'hard rule')}:", *words_told(found)]
+                return [f"{which} breaks {plural(len(found), 'hard rule')}:", *breach_lines(found)]
         return []
 
     def changes(self) -> list[tuple[int, list[int]]]:
         """The nurses who have another row than before, each with the days that are other."""
         days = [[day for day, cell in enumerate(row) if cell.is_changed] for row in self.rows]
-        return [(number, it) for number, it in enumerate(days) if it]
+        return [(number, changed) for number, changed in enumerate(days) if changed]
 
-    def told_change(self, number: int, day: int) -> tuple[str, str, str]:
+    def change_texts(self, number: int, day: int) -> tuple[str, str, str]:
         """A day that changed in words: the day, what was, and what is."""
         cell = self.rows[number][day]
         return self.day_name(day), choice_name(self.case, cell.before), choice_name(self.case, cell.choice)
 
-    def told_cover(self, at: tuple[int, int], day: int, cover: "Cover") -> str:
+    def cover_text(self, at: ShiftSkill, day: int, cover: Cover) -> str:
         """The cover of a day in words."""
         low = {"!": "; below the minimum", "-": "; below the optimum"}.get(cover.mark(), "")
-        place = f"{self.place_name(at)}, {self.day_name(day)}"
-        return f"{place}: {cover.have} there, minimum {cover.least}, optimum {cover.optimum}{low}"
+        slot = f"{self.name_of(at)}, {self.day_name(day)}"
+        return f"{slot}: {cover.have} there, minimum {cover.least}, optimum {cover.optimum}{low}"
 
-    def covers(self, at: tuple[int, int], week: int) -> list[Cover]:
+    def covers(self, at: ShiftSkill, week: int) -> list[Cover]:
         """The cover of a shift and skill on the days of a week."""
         days = range(7 * week, 7 * week + 7)
         needs, covers = self.case.needs[at], self.costing.covers
         return [Cover(covers[day][at], needs[day].least, needs[day].greatest) for day in days]
 
-    def places(self) -> list[tuple[int, int]]:
+    def needed(self) -> list[ShiftSkill]:
         """The shifts and skills of which some day needs one."""
         return [at for at, needs in self.case.needs.items() if any(map(any, needs))]
 
-    def place_name(self, at: tuple[int, int]) -> str:
+    def name_of(self, at: ShiftSkill) -> str:
         return f"{shown(self.case.shifts[at[0]].name)} {shown(self.case.skills[at[1]])}"

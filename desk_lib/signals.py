@@ -1,4 +1,4 @@
-"""Signals that end the desk: each becomes an exception, so that nothing is left beside a file."""
+"""Signals that end the desk: each becomes an exception, so that no temporary file is left."""
 import collections.abc
 import contextlib
 import signal
@@ -34,9 +34,9 @@ def on_signal(number: int, _: object) -> None:
 
 def put_all(handler: typing.Any) -> None:
     """Sets what such signals do; one that is ignored stays so."""
-    for it in ENDING:
-        if signal.getsignal(it) != signal.SIG_IGN:
-            signal.signal(it, handler)
+    for number in ENDING:
+        if signal.getsignal(number) != signal.SIG_IGN:
+            signal.signal(number, handler)
 
 
 def take() -> None:
@@ -55,8 +55,8 @@ def on_alarm(*_: object) -> None:
     raise TimeOver
 
 
-def within_time(end: float | None, work: typing.Callable[[], None]) -> None:
-    """Does the work, until that time (of time.monotonic) where one is given."""
+def within_time(end: float | None, work: collections.abc.Callable[[], object]) -> None:
+    """Does the work, until that time (of time.monotonic) if one is given."""
     signal.signal(signal.SIGALRM, on_alarm)
     try:
         try:

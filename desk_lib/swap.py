@@ -1,11 +1,10 @@
 """The command `swap`: what a swap of two nurses' days breaks and costs, and the roster with it."""
-import argparse
 import dataclasses
 import os
 
-from desk_lib.breaches import Breach, all_breaches, frozen_changes, without_rules, words_told
+from desk_lib.breaches import Breach, all_breaches, breach_lines, frozen_changes, without_rules
 from desk_lib.costs import Costing
-from desk_lib.days import days_in, is_day
+from desk_lib.days import is_day
 from desk_lib.model import Plan, solutions_of
 from desk_lib.program import Program, costs_by
 from desk_lib.replacing import read_back
@@ -16,12 +15,11 @@ from desk_lib.views import change_lines
 from desk_lib.why import nurse_in
 
 
-def days_of(asked: argparse.Namespace) -> list[bytes]:
-    """The words that name the days: the first one, and those of the words after it that are days and no files."""
-    words = [os.fsencode(asked.day)]
-    while asked.files and is_day(os.fsencode(asked.files[0])):
-        words.append(os.fsencode(asked.files.pop(0)))
-    return words
+def days_and_files(day: str, files: list[str]) -> tuple[list[bytes], list[str]]:
+    """The words that name the days, which are the first one and those of the words after it that are days and no files; and the
+    files."""
+    count = next((number for number, word in enumerate(files) if not is_day(os.fsencode(word))), len(files))
+    return [os.fsencode(word) for word in [day, *files[:count]]], files[count:]
 
 
 class Swap:
@@ -39,9 +37,9 @@ class Swap:
 
     def breaches(self) -> list[Breach]:
         """What the swap breaks that the roster keeps."""
-        there = {it.line for it in all_breaches(self.old)}
+        there = {breach.line for breach in all_breaches(self.old)}
         found = [*all_breaches(self.new), *frozen_changes(self.new, self.old.roster, self.first_week)]
-        return [it for it in found if it.line not in there]
+        return [breach for breach in found if breach.line not in there]
 
     def costing(self, texts: Texts, plan: Plan) -> Costing:
         """The costs by rule, compared with the program's, which takes breaches of no rule but these."""
@@ -50,11 +48,11 @@ class Swap:
         return found
 
     def lines(self) -> list[str]:
-        """What changes, what that breaks, and what it costs; nobody can have a skill that she lacks, which has no cost."""
+        """What changes, what that breaks, and what it costs. If a nurse would need a skill that she lacks, there is no cost."""
         broken, old = self.breaches(), self.costing(self.texts[0], self.old)
         sheet = Sheet(Costing(self.new), self.old.roster, self.first_week)
-        lines = [*change_lines(sheet), *(f"breaks {it}" for it in words_told(broken))]
-        if any(it.rule == "H4" for it in broken):
+        lines = [*change_lines(sheet), *(f"breaks {line}" for line in breach_lines(broken))]
+        if any(breach.rule == "H4" for breach in broken):
             return lines
         was, now = old.totals_by_rule(), self.costing(self.texts[1], self.new).totals_by_rule()
         return lines + [f"{rule} {changed(was[rule], now[rule])}" for rule in was if was[rule] != now[rule] or rule == "total"]
@@ -66,16 +64,16 @@ class Swap:
             new.put()
 
 
-def swap_of(asked: argparse.Namespace, roster: Program, texts: Texts, plan: Plan, words: list[bytes]) -> Swap:
-    """The swap that the words ask for."""
-    one, other = nurse_in(plan, asked.nurse), nurse_in(plan, asked.other_nurse)
+def nurses_in(plan: Plan, name: str, other_name: str) -> tuple[int, int]:
+    """The two nurses of these names."""
+    one, other = nurse_in(plan, name), nurse_in(plan, other_name)
     if one == other:
-        raise DeskError(f"swap: {shown(asked.nurse)} stands here twice; name two nurses", 2)
-    return Swap(roster, texts, plan, (one, other), days_in(words, plan.case.weeks, asked.start), asked.first_week)
+        raise DeskError(f"swap: {shown(name)} stands here twice; name two nurses", 2)
+    return one, other
 
 
 def refused(swap: Swap, out: str | None) -> DeskError | None:
-    """Why the roster isn't written, where the swap breaks something."""
+    """Why the roster isn't written, if the swap breaks something."""
     count = len(swap.breaches())
     left = f", and {shown(out)} isn't written; " if out else "; "
     return DeskError(f"the swap breaks {plural(count, 'hard rule')}{left}swap other days, or other nurses") if count else None

@@ -2,12 +2,12 @@
 import csv
 import datetime
 import io
-import json
 
-from desk_lib.breaches import all_breaches, words_told
+from desk_lib.breaches import all_breaches, breach_lines
+from desk_lib.case import changed_days
 from desk_lib.costs import RULES, Costing
-from desk_lib.days import day_place
-from desk_lib.model import Plan, changed_days, choice_name
+from desk_lib.days import day_text
+from desk_lib.model import Plan, choice_name
 from desk_lib.texts import columns, cut, shown
 
 NAME_WIDTH = 16
@@ -19,13 +19,13 @@ def aligned(rows: list[list[str]]) -> list[str]:
     widths[0] = min(widths[0], 2 * NAME_WIDTH)
     lines = []
     for row in rows:
-        cells = [cut(row[0], widths[0]), *(" " * (width - columns(it)) + it for it, width in zip(row[1:], widths[1:]))]
+        cells = [cut(row[0], widths[0]), *(" " * (width - columns(cell)) + cell for cell, width in zip(row[1:], widths[1:]))]
         lines.append("  ".join(cells).rstrip())
     return lines
 
 
 def changed(before: int | None, after: int) -> str:
-    """A number, and what it was before where that was another one."""
+    """A number, and what it was before if that was another one."""
     return str(after) if before in (None, after) else f"{before}>{after}"
 
 
@@ -33,78 +33,81 @@ def nurse_rows(costing: Costing, before: Costing | None) -> list[list[str]]:
     """S2 to S8 for each nurse, and their sum, those over all nurses last."""
     rows = [["nurse", *RULES, "sum"]]
     for number, (nurse, costs) in enumerate(zip(costing.case.nurses, costing.of_nurses)):
-        rows.append([shown(nurse.name), *cells(costs, before and before.of_nurses[number])])
-    sums = {rule: costing.totals_by_rule()[rule] for rule in RULES}
-    rows.append(["all nurses", *cells(sums, before and {rule: before.totals_by_rule()[rule] for rule in RULES})])
+        rows.append([shown(nurse.name), *cells(costs, before.of_nurses[number] if before else None)])
+    rows.append(["all nurses", *cells(sums_of(costing), sums_of(before) if before else None)])
     return rows
 
 
+def sums_of(costing: Costing) -> dict[str, int]:
+    """S2 to S8 over all nurses."""
+    return {rule: costing.totals_by_rule()[rule] for rule in RULES}
+
+
 def cells(costs: dict[str, int], before: dict[str, int] | None) -> list[str]:
-    pairs = [(before and before[rule], costs[rule]) for rule in RULES]
-    return [*(changed(*it) for it in pairs), changed(before and sum(before.values()), sum(costs.values()))]
+    found = [changed(before[rule] if before else None, costs[rule]) for rule in RULES]
+    return [*found, changed(sum(before.values()) if before else None, sum(costs.values()))]
 
 
-def place_rows(costing: Costing, before: Costing | None) -> list[list[str]]:
+def staffing_rows(costing: Costing, before: Costing | None) -> list[list[str]]:
     """S1 for each shift, a row, and each skill, a column."""
     case = costing.case
     skills = sorted({skill for _, skill in case.needs})
-    rows = [["S1", *(shown(case.skills[it]) for it in skills), "sum"]]
+    rows = [["S1", *(shown(case.skills[skill]) for skill in skills), "sum"]]
     for shift in sorted({shift for shift, _ in case.needs}):
-        row = [shown(case.shifts[shift].name)]
-        pairs = [
-            (before and before.of_places[shift, it], costing.of_places[shift, it])
-            for it in skills
-            if (shift, it) in case.needs
-        ]
-        told = {it: changed(*pair) for it, pair in zip([it for it in skills if (shift, it) in case.needs], pairs)}
-        sums = [sum(it) for it in zip(*pairs)] if before else [None, sum(after for _, after in pairs)]
-        rows.append([*row, *(told.get(it, "") for it in skills), changed(*sums)])
+        needed = [(shift, skill) for skill in skills if (shift, skill) in case.needs]
+        texts = {at[1]: changed(before.staffing[at] if before else None, costing.staffing[at]) for at in needed}
+        was = sum(before.staffing[at] for at in needed) if before else None
+        sums = changed(was, sum(costing.staffing[at] for at in needed))
+        rows.append([shown(case.shifts[shift].name), *(texts.get(skill, "") for skill in skills), sums])
     return rows
 
 
 def cost_lines(costing: Costing, before: Costing | None) -> list[str]:
     """What the command `costs` writes."""
-    totals, old = costing.totals_by_rule(), before and before.totals_by_rule()
+    totals, old = costing.totals_by_rule(), before.totals_by_rule() if before else None
     lines = aligned(nurse_rows(costing, before))
-    lines += ["", *aligned(place_rows(costing, before)), ""]
+    lines += ["", *aligned(staffing_rows(costing, before)), ""]
     if before:
         lines.append(f"days changed {changed_days(before.plan.roster, costing.plan.roster)}")
-    return lines + [f"{rule} {changed(old and old[rule], number)}" for rule, number in totals.items()]
+    return lines + [f"{rule} {changed(old[rule] if old else None, number)}" for rule, number in totals.items()]
 
 
 def csv_text(plan: Plan, start: datetime.date | None) -> str:
-    """The roster as CSV: a line for each nurse, with what she does on each day; nothing where she is off."""
+    """The roster as CSV: a line for each nurse, with what she does on each day; nothing if she is off."""
     days = range(plan.days)
-    heads = [str(start + datetime.timedelta(day)) if start else day_place(day) for day in days]
+    heads = [str(start + datetime.timedelta(day)) if start else day_text(day) for day in days]
     text = io.StringIO()
     table = csv.writer(text, lineterminator="\n")
     table.writerow(["nurse", *heads])
     for nurse, row in zip(plan.case.nurses, plan.roster):
-        table.writerow([shown(nurse.name), *(choice_name(plan.case, it) if it else "" for it in row)])
+        table.writerow([shown(nurse.name), *(choice_name(plan.case, choice) if choice else "" for choice in row)])
     return text.getvalue()
 
 
-def costs_of(costing: Costing) -> dict:
+def costs_of(costing: Costing) -> dict[str, object]:
     """The costs of a roster by rule, by nurse, and by shift and skill."""
     case, plan = costing.case, costing.plan
     nurses = [
         {"name": shown(nurse.name), "contract": shown(plan.contract_name(nurse.contract)), **costs, "sum": sum(costs.values())}
         for nurse, costs in zip(case.nurses, costing.of_nurses)
     ]
-    places = [
+    of_shifts = [
         {"shift": shown(case.shifts[shift].name), "skill": shown(case.skills[skill]), "S1": cost}
-        for (shift, skill), cost in costing.of_places.items()
+        for (shift, skill), cost in costing.staffing.items()
     ]
-    return {**costing.totals_by_rule(), "nurses": nurses, "places": places}
+    return {**costing.totals_by_rule(), "nurses": nurses, "places": of_shifts}
 
 
-def json_text(costing: Costing, before: Costing | None, floor: int | None) -> str:
-    """What `costs --json` writes: an object with the costs, and where one was looked for the floor. With a second roster it has
-    also those of the first, as `before`, with the hard rules that it breaks."""
-    found: dict = {"scenario": shown(costing.case.name), **costs_of(costing)}
-    if floor is not None:
-        found |= {"floor": floor, "optimal": found["total"] == floor}
+def json_text(costing: Costing, before: Costing | None, bound: int | None) -> str:
+    """What `costs --json` writes: an object with the costs, and a lower bound if one was looked for. With a second roster it also has
+    those of the first, as `before`, with the hard rules that it breaks."""
+    # (a start of the desk is the quicker without this import)
+    import json
+
+    found: dict[str, object] = {"scenario": shown(costing.case.name)} | costs_of(costing)
+    if bound is not None:
+        found |= {"floor": bound, "optimal": costing.penalty == bound}
     if before:
         found["days_changed"] = changed_days(before.plan.roster, costing.plan.roster)
-        found["before"] = {**costs_of(before), "breaks": words_told(all_breaches(before.plan))}
+        found["before"] = costs_of(before) | {"breaks": breach_lines(all_breaches(before.plan))}
     return json.dumps(found, indent=2, ensure_ascii=False)

@@ -11,9 +11,9 @@ KINDS = {"sce": "scenario", "his": "history", "weeks": "week data", "sols": "sol
 # What an editor may begin a text with.
 UTF8_MARK = b"\xef\xbb\xbf"
 
-# So many bytes of a line are kept before a word and after it.
+# How many bytes of a line are kept before a word and after it.
 AROUND = 400
-# What an edit of a text puts in the place of some bytes: from where, how many, and what.
+# An edit of a text, which replaces some bytes: from where, how many, and with what.
 Edit = tuple[int, int, bytes]
 
 
@@ -34,7 +34,7 @@ def shown(word: bytes | str) -> str:
     """A word as it can be shown anywhere: bytes that are no UTF-8, and letters that can't be seen, by their numbers."""
     word = os.fsencode(word) if isinstance(word, str) else word
     letters = word.decode("utf-8", "backslashreplace")
-    return "".join(it if is_shown(it) else it.encode("unicode_escape").decode() for it in letters)
+    return "".join(letter if is_shown(letter) else letter.encode("unicode_escape").decode() for letter in letters)
 
 
 def plural(count: int, what: str) -> str:
@@ -43,11 +43,12 @@ def plural(count: int, what: str) -> str:
 
 def columns(text: str) -> int:
     """How many columns of a terminal the text takes."""
-    return sum(0 if unicodedata.combining(it) else 2 if unicodedata.east_asian_width(it) in "WF" else 1 for it in text)
+    widths = [2 if unicodedata.east_asian_width(letter) in "WF" else 1 for letter in text if not unicodedata.combining(letter)]
+    return sum(widths)
 
 
 def cut(text: str, width: int) -> str:
-    """The text in so many columns: filled up with blanks, or cut with a mark at its end."""
+    """The text in this number of columns: filled up with blanks, or cut with a mark at its end."""
     if columns(text) > width:
         while columns(text) > width - 1:
             text = text[:-1]
@@ -65,18 +66,18 @@ class Origin:
 
     def word_at(self, at: int) -> tuple[int, int]:
         """The word of which a byte of the text was made."""
-        _, first, length = self.parts[max(0, bisect.bisect_right(self.parts, at, key=lambda it: it[0]) - 1)]
+        _, first, length = self.parts[max(0, bisect.bisect_right(self.parts, at, key=lambda part: part[0]) - 1)]
         return first, length
 
     def moved(self, at: int, count: int) -> "Origin":
-        """With so many bytes more in the text at one of them."""
+        """With this number of bytes more in the text at one of them."""
         return Origin(self.data, [(begin + count * (begin > at), first, length) for begin, first, length in self.parts])
 
 
 @dataclasses.dataclass(frozen=True)
 class Text:
-    """A file: the name by which it was given, its bytes, and the option that named it, if one did. Where the bytes were made of
-    others, or edited, it has these, too."""
+    """A file: the name by which it was given, its bytes, and the option that named it, if one did. If the bytes were made of others, or
+    edited, it has these, too."""
 
     name: str
     data: bytes
@@ -122,7 +123,7 @@ class Place:
         """The line's text, and a line that marks the word below it."""
         end = self.column + self.length
         parts = self.text[: self.column], self.text[self.column : end], self.text[end:]
-        before, word, after = (shown(it.replace(b"\t", b" ")) for it in parts)
+        before, word, after = (shown(part.replace(b"\t", b" ")) for part in parts)
         if columns(before) > 60:
             before = "…" + before[-50:]
         mark = " " * columns(before) + "^" * max(1, columns(word))
@@ -135,7 +136,7 @@ class Texts:
     def __init__(self, texts: list[Text], is_stream: bool = False):
         self.texts, self.is_stream = texts, is_stream
         self.lines: dict[int, list[int]] = {}
-        parts = [it.data + (b"" if is_stream else b"\n") for it in texts]
+        parts = [text.data + (b"" if is_stream else b"\n") for text in texts]
         self.joined = b"".join(parts)
         self.starts = [0]
         for part in parts:
@@ -147,15 +148,15 @@ class Texts:
             kept = [Text(self.texts[0].name, self.joined[:offset])]
         else:
             kept = [
-                Text(it.name, it.data[: max(0, offset - start)], it.kind)
-                for it, start in zip(self.texts, self.starts)
+                Text(text.name, text.data[: max(0, offset - start)], text.kind)
+                for text, start in zip(self.texts, self.starts)
                 if start < offset
             ]
         return Texts(kept + more)
 
     def edited(self, edits: list[Edit]) -> "Texts":
         """The texts with edits, whose bytes are those of the joined text."""
-        return Texts([it.edited(start, edits) for it, start in zip(self.texts, self.starts)], self.is_stream)
+        return Texts([text.edited(start, edits) for text, start in zip(self.texts, self.starts)], self.is_stream)
 
     def index(self, offset: int) -> int:
         """The number of the file in which a byte stands; the last one's at the end."""
@@ -179,7 +180,7 @@ class Texts:
     def line_starts(self, index: int) -> list[int]:
         """The bytes of a file at which its lines begin."""
         if index not in self.lines:
-            self.lines[index] = [0, *(it.end() for it in re.finditer(rb"\n", self.texts[index].given))]
+            self.lines[index] = [0, *(match.end() for match in re.finditer(rb"\n", self.texts[index].given))]
         return self.lines[index]
 
     def line_start(self, number: int) -> int:

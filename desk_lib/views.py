@@ -1,15 +1,17 @@
-"""Parts of the page beside its tables: who is on by day, one nurse's month, and the changes by nurse."""
+"""What the page has next to its tables: who is on by day, one nurse's month, and the changes by nurse."""
 import collections
-import html
 
+from desk_lib.case import Choice
 from desk_lib.grammar import DAYS
-from desk_lib.model import Choice
 from desk_lib.sheet import Sheet, date_name
 from desk_lib.texts import plural, shown
 
 
 def escaped(name: bytes | str) -> str:
     """A name as it can stand anywhere in the page."""
+    # (other commands start the quicker without this import)
+    import html
+
     return html.escape(shown(name))
 
 
@@ -22,7 +24,7 @@ def key(sheet: Sheet, shift: int) -> str:
 
 
 def by_day(sheet: Sheet) -> str:
-    """For each day the nurses of each shift. On a telephone there is one day at a time, and the next one beside it."""
+    """For each day the nurses of each shift. On a telephone there is one day at a time, with the next one at its side."""
     days = [7 * week + day for week in sheet.weeks for day in range(7)]
     links = "".join(week_links(sheet, week) for week in sheet.weeks)
     return "\n".join(
@@ -46,22 +48,22 @@ def week_links(sheet: Sheet, week: int) -> str:
 
 
 def day_number(sheet: Sheet, day: int) -> str:
-    """A day, short: the weekday, and its date where that is known."""
+    """A day, short: the weekday, and its date if that is known."""
     date = sheet.date(day)
     return f"{DAYS[day % 7].decode()[:2]}{f' {date.day}' if date else ''}"
 
 
 def day_card(sheet: Sheet, day: int) -> str:
-    on = collections.defaultdict(list)
+    on: dict[Choice, list[bytes]] = collections.defaultdict(list)
     for nurse, row in zip(sheet.case.nurses, sheet.rows):
         on[row[day].choice].append(nurse.name)
-    told = "".join(shift_on(sheet, on, shift) for shift in range(len(sheet.case.shifts))) or "<p>Nobody is on.</p>"
+    shifts = "".join(shift_on(sheet, on, shift) for shift in range(len(sheet.case.shifts))) or "<p>Nobody is on.</p>"
     weekend = " weekend" if day % 7 > 4 else ""
-    return f'<article class="day{weekend}" id="day-{day}"><h3>{sheet.day_name(day)}</h3>{told}</article>'
+    return f'<article class="day{weekend}" id="day-{day}"><h3>{sheet.day_name(day)}</h3>{shifts}</article>'
 
 
 def shift_on(sheet: Sheet, on: dict[Choice, list[bytes]], shift: int) -> str:
-    """The nurses of a shift, by skill in the order of the scenario, of those who are on; nothing where there are none."""
+    """The nurses of a shift, by skill in the order of the scenario, of those who are on; nothing if there are none."""
     case = sheet.case
     found = [
         f"<li>{escaped(nurse)} <small>{escaped(name)}</small></li>"
@@ -77,7 +79,7 @@ def shift_on(sheet: Sheet, on: dict[Choice, list[bytes]], shift: int) -> str:
 
 def month(sheet: Sheet, number: int) -> str:
     """The weeks of one nurse, each a row of seven days."""
-    heads = "".join(f'<th scope="col">{it.decode()}</th>' for it in DAYS)
+    heads = "".join(f'<th scope="col">{day.decode()}</th>' for day in DAYS)
     rows = "\n".join(month_week(sheet, number, week) for week in sheet.weeks)
     count = sum(cell.choice is not None for cell in sheet.rows[number])
     return f"""<section id="month">
@@ -95,17 +97,17 @@ def month_week(sheet: Sheet, number: int, week: int) -> str:
 
 
 def month_day(sheet: Sheet, number: int, day: int) -> str:
-    """A day of a nurse: its date, the shift with the skill, and what it was where it changed."""
+    """A day of a nurse: its date, the shift with the skill, and what it was if it changed."""
     cell, case = sheet.rows[number][day], sheet.case
     date = sheet.date(day)
     when = f'<small class="when"><b>{DAYS[day % 7].decode()}</b> {date_name(date) if date else f"week {day // 7}"}</small>'
     if cell.choice is None:
-        told = '<span class="off">absent</span>' if cell.is_absent else '<span class="off">off</span>'
+        what = '<span class="off">absent</span>' if cell.is_absent else '<span class="off">off</span>'
     else:
         shift, skill = cell.choice
-        told = f'<b class="shift s{shift}">{escaped(case.shifts[shift].name)}</b><small>{escaped(case.skills[skill])}</small>'
-    before = f'<small class="new">was {escaped(sheet.told_change(number, day)[1])}</small>' if cell.is_changed else ""
-    return f'<td{" class=weekend" if day % 7 > 4 else ""}>{when}{told}{before}</td>'
+        what = f'<b class="shift s{shift}">{escaped(case.shifts[shift].name)}</b><small>{escaped(case.skills[skill])}</small>'
+    before = f'<small class="new">was {escaped(sheet.change_texts(number, day)[1])}</small>' if cell.is_changed else ""
+    return f'<td{" class=weekend" if day % 7 > 4 else ""}>{when}{what}{before}</td>'
 
 
 # ---- changes
@@ -117,7 +119,7 @@ def changes(sheet: Sheet) -> str:
     for number, days in sheet.changes():
         name = escaped(sheet.case.nurses[number].name)
         for day in days:
-            when, was, now = (escaped(it) for it in sheet.told_change(number, day))
+            when, was, now = (escaped(text) for text in sheet.change_texts(number, day))
             head = f'<th scope="row" rowspan="{len(days)}">{name}</th>' if day == days[0] else ""
             rows.append(f'<tr>{head}<td class="words">{when}</td><td class="words">{was}</td><td class="words">{now}</td></tr>')
     if not rows:
@@ -138,6 +140,6 @@ def change_lines(sheet: Sheet) -> list[str]:
     lines = []
     for number, days in sheet.changes():
         for day in days:
-            when, was, now = sheet.told_change(number, day)
+            when, was, now = sheet.change_texts(number, day)
             lines.append(f"{shown(sheet.case.nurses[number].name)}, {when}: {was} > {now}")
     return [*lines, f"{plural(sheet.changed(), 'day')} of {plural(len(sheet.changes()), 'nurse')} changed"]
