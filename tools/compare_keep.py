@@ -1,11 +1,11 @@
-"""Holds what a built program answers with '--keep' to a reckoning of its own.
+"""Checks what a built program answers with '--keep' by tools/reckoning.py.
 
-It draws the points of '--keep' for each instance, 0 to 100, most often none that 5 divides, and a first week. 'best' for each nurse,
-'improve' and 'bound' have to answer, output and log, what tools/reckoning.py has for the case that keeps the roster which was read.
-What 'polish' and 'plan' answer is held to it as tools/compare_polish.py and tools/compare_plan.py hold it, 'plan' on an instance of
-the latter: the hard rules, the frozen days, the penalty of the log's last line, that no nurse has a cheaper row, that no roster is
-dearer than the given one, and the same bytes the second time; all with the points. The log has to begin with a line 'keep N'. With 0
-points each command has to answer the bytes that it answers without the option. Some rosters have to be changed on fewer days than
+It draws the points of '--keep' for each instance, 0 to 100, most often a number that 5 doesn't divide, and a first week. 'best' for each
+nurse, 'improve' and 'bound' have to answer, output and log, what tools/reckoning.py has for the case in which the roster that was read
+is to be kept. What 'polish' and 'plan' answer is checked as tools/compare_polish.py and tools/compare_plan.py check it, 'plan' on an
+instance of the latter: the hard rules, the frozen days, the penalty of the log's last line, that no nurse has a cheaper row, that no
+roster is dearer than the given one, and the same bytes the second time; all with the points. The log has to begin with a line 'keep N'.
+With 0 points each command has to answer the bytes that it answers without the option. Some rosters have to change on fewer days than
 without points.
 """
 import compare_plan
@@ -23,7 +23,7 @@ def points_of(rng):
 
 
 class Keep:
-    """One instance with its points, and what is wrong with the answers to it."""
+    """One instance with its points, and what is wrong with the answers for it."""
 
     def __init__(self, program, rng):
         self.program, self.rng = program, rng
@@ -34,7 +34,7 @@ class Keep:
         self.wrong = []
 
     def holds(self, due, *command):
-        """Holds the answer to a command to what is due."""
+        """Checks that a command answers what is due."""
         words = [*command, *(["--from", str(self.first_week)] if self.first_week else [])]
         given = answer(self.program, [*words, "--keep", str(self.keep)], self.text)
         if given != (0, *due):
@@ -43,7 +43,7 @@ class Keep:
             self.wrong.append(f"{words}: other bytes without the option")
 
     def exactly(self):
-        """The commands of which all is reckoned."""
+        """The commands whose whole answer is reckoned."""
         case, roster, week = self.case, self.roster, self.first_week
         for number, nurse in enumerate(case.nurses):
             row = reckoning.best_row(case, roster, number, week)
@@ -54,7 +54,7 @@ class Keep:
         self.holds(reckoning.bound(case, roster, rounds, week), "bound", "--rounds", str(rounds))
 
     def polish(self):
-        """How many days change with the points, and without."""
+        """On how many days 'polish' changes the roster with the points, and without."""
         searches, seed = self.rng.choice([0, 30, 200]), self.rng.randrange(9)
         run = compare_polish.Run(self.plain, self.roster, searches, seed, self.first_week, self.rng.random() < 0.3, self.keep)
         given = self.rest(compare_polish, run, self.text)
@@ -69,17 +69,17 @@ class Keep:
         return reckoning.read(self.text.removesuffix(reckoning.solutions(self.plain, self.roster)) + output)[1]
 
     def plan(self):
-        """From a roster that may break the hard rules; its text."""
+        """Checks 'plan' from a roster that may break the hard rules; returns its text."""
         run = compare_plan.random_run(self.rng)._replace(keep=self.keep)
         text = text_of(run.case, run.roster)
         self.rest(compare_plan, run, text)
         return text
 
     def rest(self, command, run, text):
-        """Of a command of which not all is reckoned what is; its answer."""
+        """Checks what is reckoned of a command's answer, and returns the answer."""
         words = command.words_of(run, run.seed)
         given = answer(self.program, words, text)
-        self.wrong += [f"{words}: {it}; {given}" for it in command.faults(self.program, run, text, given)]
+        self.wrong += [f"{words}: {fault}; {given}" for fault in command.faults(self.program, run, text, given)]
         if not self.keep and answer(self.program, [*words, "--keep", "0"], text) != given:
             self.wrong.append(f"{words}: other bytes with 0 points")
         return given
@@ -93,7 +93,7 @@ def compare(programs, _, rng, seen):
     text_of_plan = run.plan()
     if not run.wrong:
         seen.update({"kept": days[0], "free": days[1], "fewer": days[0] < days[1]})
-    return f"{run.text}\n{text_of_plan}", [f"{run.keep} points, {it}" for it in run.wrong]
+    return f"{run.text}\n{text_of_plan}", [f"{run.keep} points, {fault}" for fault in run.wrong]
 
 
 def summary(seen):

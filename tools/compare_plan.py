@@ -1,20 +1,20 @@
-"""Holds what a built program's 'plan' answers to a reckoning of its own.
+"""Checks what a built program's 'plan' answers by tools/reckoning.py.
 
-The instances have more and higher minimums, and absences on any day. Their solutions are empty, or full and right, or right in the
-frozen days alone, or wrong anywhere. It runs the program with 'plan' and 0 to 1000 searches on each, by a seed and from a week that
-are drawn too.
+The instances have more and higher minimums, and absences on any day. Their solutions are empty, or full and right, or right only on the
+frozen days, or wrong anywhere. It runs the program with 'plan' and 0 to 1000 searches on each, by a seed and from a week that are drawn
+too.
 
-A missing skill, and then a forbidden succession, an absence and a missed minimum of frozen days, have to be told in their line. Else,
-by the reckoning of tools/reckoning.py, the roster that comes out has to keep the hard rules and the frozen days, and to be settled; its
-penalty has to be that of the log's last line, of 'cost', and of 'improve --rounds 1', which has to change nothing. Where the roster
-given keeps the hard rules it may be no dearer. The log has to begin with how many nurses the minimums miss in the roster given, absent
-ones aside; kicks have to come in order, none beyond the searches, and their totals, and that of the fade, have to fall. The same words
-have to give the same bytes again.
+The log has to report what 'plan' can't repair, in this order: a missing skill, and then a forbidden succession, an absence or a minimum
+that isn't met, of frozen days. If there is none, the roster that comes out has to keep the hard rules and the frozen days, and to be
+settled; its penalty has to be that of the log's last line, of 'cost', and of 'improve --rounds 1', which has to change nothing. If the
+given roster keeps the hard rules, the new one may be no dearer. The log has to begin with the number of nurses whom the minimums of the
+given roster lack if absent ones don't count; kicks have to come in order, none beyond the searches, and their totals, and that of the
+fade, have to fall. The same words have to give the same bytes again.
 
-Where no roster comes out, the line 'not found:' has to tell the first breach of the roster given; or, after a search, that of one
-of its rows, since who had no turn keeps hers, or a minimum that another roster with these frozen days can miss. All rosters are
-tried then, day by day: whether there is one that keeps the hard rules. That one was there and wasn't found is no failure; how often
-that was is told. Some rosters have to be found, some refused, and some not to be there.
+If no roster comes out, the line 'not found:' has to report the first breach of the given roster; or, after a search, the first of one
+of its rows, since a nurse who had no turn keeps hers; or a minimum that another roster with these frozen days may not meet. It then
+tries all rosters, day by day, to see if one keeps the hard rules. It is no failure if there is one that wasn't found; how often that
+happened is printed. Some rosters have to be found, some refused, and some instances have to have none.
 """
 import collections
 import itertools
@@ -41,16 +41,16 @@ def harder(rng, case, kept):
         least = [covers[day][at] if rng.random() < likely else of_days[day].least for day in days]
         if is_too_high:
             least[rng.choice(days)] += 1
-        needs[at] = [reckoning.Limits(it, of_day.greatest) for it, of_day in zip(least, of_days)]
+        needs[at] = [reckoning.Limits(count, of_day.greatest) for count, of_day in zip(least, of_days)]
     count = rng.choice([0, 0, 1, rng.randint(1, 7)])
     ill = {(rng.randrange(len(kept)), rng.choice(days)) for _ in range(count)}
     return case._replace(needs=needs, absences=case.absences | ill)
 
 
 def joined(case, kept, free, first_week):
-    """The roster that has its frozen days from one, and its free days from another."""
+    """The roster that takes its frozen days from one, and its free days from another."""
     stays = lambda number, day: reckoning.is_frozen(case, number, day, first_week)
-    return [[kept[it][day] if stays(it, day) else choice for day, choice in enumerate(row)] for it, row in enumerate(free)]
+    return [[kept[number][day] if stays(number, day) else choice for day, choice in enumerate(row)] for number, row in enumerate(free)]
 
 
 def emptied(case, kept, first_week):
@@ -59,13 +59,13 @@ def emptied(case, kept, first_week):
 
 
 def any_choice(rng, case, number, has_skill):
-    """A choice of a nurse that asks for nothing but, where that is wanted, the skill."""
+    """Any choice for a nurse, of a skill that she has if `has_skill` says so."""
     skills = case.nurses[number].skills if has_skill else range(len(case.skills))
     return rng.choice([None, (rng.randrange(len(case.shifts)), rng.choice(skills))]) if skills else None
 
 
 def given(rng, case, kept, first_week):
-    """A roster to begin with: what it has on frozen days, and on those after."""
+    """A roster to begin with, of one of several kinds."""
     kind = rng.choice(["empty", "full", "free days", "all days", "skills"])
     if kind == "full":
         return kept
@@ -96,51 +96,51 @@ def words_of(run, seed):
 
 
 def next_of(case, day, before, free):
-    """What the nurses' shifts can be after a day on which they are these before it, and free to choose so."""
+    """The shifts that the nurses can have on a day, after these on the day before, if they may choose so."""
     for choices in itertools.product(*free):
-        shifts = tuple(it and it[0] for it in choices)
-        if not any(it in case.forbidden for it in zip(before, shifts)) and reckoning.meets_minimums(case, day, reckoning.cover(choices)):
+        shifts = tuple(choice and choice[0] for choice in choices)
+        if not any(pair in case.forbidden for pair in zip(before, shifts)) and reckoning.meets_minimums(case, day, reckoning.cover(choices)):
             yield shifts
 
 
 def is_there_one(run):
-    """Whether a roster keeps the hard rules and the frozen days. Of all beginnings of rosters the last shifts are kept."""
+    """Whether some roster keeps the hard rules and the frozen days. Of all beginnings of rosters only the last shifts are kept."""
     case, before = run.case, {tuple(nurse.history.last for nurse in run.case.nurses)}
     for day in reckoning.days_of(case):
         stays = lambda number: reckoning.is_frozen(case, number, day, run.first_week)
-        free = [[row[day]] if stays(it) else reckoning.choices_of(case, it, day) for it, row in enumerate(run.roster)]
-        before = {after for it in before for after in next_of(case, day, it, free)}
+        free = [[row[day]] if stays(number) else reckoning.choices_of(case, number, day) for number, row in enumerate(run.roster)]
+        before = {after for shifts in before for after in next_of(case, day, shifts, free)}
     return bool(before)
 
 
 # ---- what is wrong with an answer
 
 
-def log_wrong(it, run):
+def log_wrong(log, run):
     """What may be wrong with a log."""
-    totals = [*([] if it.fade is None else [it.fade]), *(total for _, total in it.kicks)]
-    is_dearer = not reckoning.breaches(run.case, run.roster) and it.total > reckoning.penalty(run.case, run.roster)
-    return lines_wrong(it, run, reckoning.lacking(run.case, run.roster), totals) | {"a dearer roster": is_dearer}
+    totals = [*([] if log.fade is None else [log.fade]), *(total for _, total in log.kicks)]
+    is_dearer = not reckoning.breaches(run.case, run.roster) and log.total > reckoning.penalty(run.case, run.roster)
+    return lines_wrong(log, run, reckoning.lacking(run.case, run.roster), totals) | {"a dearer roster": is_dearer}
 
 
 def first_breaches(run):
-    """What may be told of the roster given: its first breach, and after a search the first of each row."""
-    of_rows = {it.number: it for it in reversed([*reckoning.breaches_of_rows(run.case, run.roster)])} if run.searches else {}
+    """What may be reported of the given roster: its first breach, and after a search the first of each row."""
+    of_rows = {breach.number: breach for breach in reversed([*reckoning.breaches_of_rows(run.case, run.roster)])} if run.searches else {}
     return [*reckoning.breaches(run.case, run.roster)[:1], *of_rows.values()]
 
 
 def faults_of_line(run, output, log):
-    """What is wrong with an answer of status 1 where nothing is refused before the search."""
+    """What is wrong with an answer of status 1 if nothing is refused before the search."""
     case, line = run.case, re.fullmatch(r"not found: H2 week (\d+) (\w+) (\S+) (\S+): (\d+) of (\d+)\n", log)
-    if not output and log in [f"not found: {it.line}\n" for it in first_breaches(run)]:
+    if not output and log in [f"not found: {breach.line}\n" for breach in first_breaches(run)]:
         return []
     if output or not line:
         return ["the form"]
     day = 7 * int(line[1]) + reckoning.DAYS.index(line[2])
-    at = [it.name for it in case.shifts].index(line[3]), case.skills.index(line[4])
+    at = [shift.name for shift in case.shifts].index(line[3]), case.skills.index(line[4])
     wrong = {
         "the minimum": at not in case.needs or case.needs[at][day].least != int(line[6]) or int(line[5]) >= int(line[6]),
-        "a minimum of a frozen day": all(reckoning.is_frozen(case, it, day, run.first_week) for it in range(len(case.nurses))),
+        "a minimum of a frozen day": all(reckoning.is_frozen(case, number, day, run.first_week) for number in range(len(case.nurses))),
         "another roster without a search": not run.searches,
     }
     return [what for what, is_wrong in wrong.items() if is_wrong]
@@ -150,11 +150,11 @@ def faults(program, run, text, reply):
     """What is wrong with an answer."""
     refused = reckoning.unplannable(run.case, run.roster, run.first_week)
     if refused:
-        return [] if reply == (1, "", f"{refused[0].line}\n") else [f"{refused[0].line} isn't told"]
+        return [] if reply == (1, "", f"{refused[0].line}\n") else [f"{refused[0].line} isn't reported"]
     status, output, log = reply
     if status not in (0, 1):
         return ["the status"]
-    of_roster = lambda: faults_of_roster(program, run, text, output, log, lambda it: log_wrong(it, run))
+    of_roster = lambda: faults_of_roster(program, run, text, output, log, lambda log: log_wrong(log, run))
     wrong = faults_of_line(run, output, log) if status else of_roster()
     return wrong + ["other bytes the second time"] * (answer(program, words_of(run, run.seed), text) != reply)
 
@@ -165,7 +165,7 @@ def kind_of(run, reply):
         return "refused before the search"
     if reply[0] == 0:
         return "found"
-    return "not found where there is one" if is_there_one(run) else "not there"
+    return "not found though there is one" if is_there_one(run) else "not there"
 
 
 def compare(programs, _, rng, seen):
@@ -176,10 +176,10 @@ def compare(programs, _, rng, seen):
     wrong = faults(programs[0], run, text, reply)
     if wrong:
         return text, [f"{words}: {', '.join(wrong)}; {reply}"]
-    seen.update([kind_of(run, reply), *(it for it in ("fade", "kick") if f"\n{it} " in reply[2])])
+    seen.update([kind_of(run, reply), *(word for word in ("fade", "kick") if f"\n{word} " in reply[2])])
     return text, []
 
 
 def summary(seen):
-    kinds = ", ".join(f"{seen[it]} {it}" for it in [*WANTED, "not found where there is one"])
+    kinds = ", ".join(f"{seen[kind]} {kind}" for kind in [*WANTED, "not found though there is one"])
     return f"{kinds}; {seen['fade']} runs with a fade, {seen['kick']} with a kick that made the roster cheaper"

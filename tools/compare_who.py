@@ -1,11 +1,11 @@
 """Compares what a built program's 'who' answers with trying all rows.
 
-Half of the instances are as those of tools/compare_plan.py, with rosters that miss minimums or let absent nurses work. For each it
-draws two assignments, a skill or none, and a first week, runs the program with 'who' on them, and looks for each nurse's row itself:
-it costs every row that she may have by the reckoning of its own that tools/reckoning.py has, and takes the first of the cheapest.
-Output, log and status have to be exactly those of these rows, and the reckoning's search day by day, which tools/reckon prints, has to
-find the same. Where the frozen days can't be mended, their line has to be told. Some assignments have to be kept by all rows, some
-missed, and some to be nobody's.
+Half of the instances are like those of tools/compare_plan.py, with rosters that don't meet minimums or let absent nurses work. For each
+it draws two assignments, each with a skill or none, and a first week, and runs the program with 'who' on them. It looks for each
+nurse's row itself: it costs every row that she may have by tools/reckoning.py, and takes the first of the cheapest. Output, log and
+status have to be exactly those of these rows, and the reckoning's search day by day, which tools/reckon prints, has to find the same. If
+the frozen days can't be repaired, the log has to be the line that says so. With some assignments all minimums have to be met, with some
+not, and some have to have no taker.
 """
 import compare_plan
 import reckoning
@@ -18,7 +18,7 @@ WANTED = ["kept", "missing", "nobody"]
 
 
 def instance(rng):
-    """A case, a roster that may miss minimums, and a first week from which on all rows can be tried."""
+    """A case, a roster that may not meet minimums, and a first week from which on all rows can be tried."""
     case, roster = random_instance(rng)
     first_week = first_week_of(rng, case)
     if rng.random() < 0.5:
@@ -40,7 +40,7 @@ def words_of(case, asked, first_week):
 
 
 def expected(case, roster, asked, first_week):
-    """The answer by trying all rows, or what is refused before."""
+    """The answer by trying all rows, or the refusal before."""
     refused = reckoning.unplannable(case, roster, first_week)
     if refused:
         return 1, "", f"{refused[0].line}\n"
@@ -48,7 +48,7 @@ def expected(case, roster, asked, first_week):
 
 
 def kind_of(due):
-    """What an answer tells."""
+    """Which kind of answer this is."""
     return "refused" if due[0] else "nobody" if not due[1] else "missing" if "missed" in due[1] else "kept"
 
 
@@ -68,4 +68,4 @@ def compare(programs, _, rng, seen):
 
 
 def summary(seen):
-    return ", ".join(f"{seen[it]} {it}" for it in [*WANTED, "refused"])
+    return ", ".join(f"{seen[kind]} {kind}" for kind in [*WANTED, "refused"])

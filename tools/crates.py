@@ -1,6 +1,6 @@
 """Copies of some crates of the repository, and the programs that tools/build and ./test keep in out/ for ./roster.
 
-Beside a program NAME stands NAME.built: the lines that tools/sources printed of it, and that of 'rt version'.
+Next to a program NAME there is a note NAME.built: what tools/sources printed for it, and what 'rt version' did.
 """
 import contextlib
 import os
@@ -10,10 +10,10 @@ import subprocess
 
 TOP = os.path.dirname(os.path.dirname(os.path.realpath(__file__)))
 KEPT = f"{TOP}/out"
-# Whoever puts a program there holds this file.
+# Whatever puts a program there holds a lock on this file.
 LOCK = f"{KEPT}/build.lock"
-PARTS = ("src", "specs", "proofs")
-# What of a crate's folder no copy holds: what rt has built, and edits.
+SOURCES = ("src", "specs", "proofs")
+# What a copy of a crate's folder leaves out: what rt has built, and edits.
 LEFT_OUT = ("out", "must-fail", "more-must-fail")
 
 
@@ -25,7 +25,7 @@ def lines(*names):
     """The lines of crates.txt of some crates and of all below them, by their names."""
     with open(f"{TOP}/crates.txt", encoding="utf-8") as file:
         found = printed(f"{TOP}/tools/crate-lines", *names, stdin=file).splitlines(keepends=True)
-    return {re.match(r"\s*([^\s:]+)", it)[1]: it for it in found}
+    return {re.match(r"\s*([^\s:]+)", line)[1]: line for line in found}
 
 
 def copy(names, to):
@@ -41,7 +41,7 @@ def copy(names, to):
 
 
 def built_of(name, folder=TOP):
-    """Of what a program is built here and now: what tools/sources prints, and where there is a kit, its line."""
+    """What a program would be built of now: what tools/sources prints, and if there is a kit, its version."""
     version = printed("rt", "version") if shutil.which("rt") else ""
     return printed(f"{TOP}/tools/sources", name, folder) + version
 
@@ -52,7 +52,7 @@ def program(name):
 
 
 def is_current(name):
-    """Whether a program is there that was built of the sources as they stand, by the kit that is there, if one is."""
+    """Whether there is a program that was built of the sources as they are, and by the kit that is there, if one is."""
     try:
         with open(f"{program(name)}.built", encoding="utf-8") as file:
             noted = file.read().splitlines()
@@ -63,29 +63,29 @@ def is_current(name):
     if not os.access(program(name), os.X_OK) or noted[:1] != [digest] or (version and noted[2:] != version):
         return False
     if version:
-        # (the same kit may have been put somewhere else)
+        # the same kit may be in another folder than then
         note(name, now)
     return True
 
 
 def note(name, of):
-    """Notes beside a program of what it was built."""
-    place = f"{program(name)}.built"
-    with open(f"{place}.new", "w", encoding="utf-8") as file:
+    """Notes next to a program what it was built of."""
+    path = f"{program(name)}.built"
+    with open(f"{path}.new", "w", encoding="utf-8") as file:
         file.write(of)
-    os.replace(f"{place}.new", place)
+    os.replace(f"{path}.new", path)
 
 
 def keep(built, name, since, of):
-    """Puts a program where it is kept. Its build was begun at that time; of what it was built, built_of has said."""
-    place = program(name)
+    """Puts a built program where it is kept. Its build began at that time, and `of` is what built_of returned for it then."""
+    path = program(name)
     os.makedirs(KEPT, exist_ok=True)
-    # (one that is killed in between leaves no note, and what stands without one isn't taken)
+    # a run that is killed in between leaves no note, and a program without a note isn't used
     with contextlib.suppress(FileNotFoundError):
-        os.remove(f"{place}.built")
-    shutil.copy(built, f"{place}.new")
-    os.utime(f"{place}.new", (since, since))
-    os.replace(f"{place}.new", place)
+        os.remove(f"{path}.built")
+    shutil.copy(built, f"{path}.new")
+    os.utime(f"{path}.new", (since, since))
+    os.replace(f"{path}.new", path)
     note(name, of)
 
 
@@ -93,10 +93,10 @@ def have_changed(since):
     """Whether a source has been written since that time, whatever its time stamp says."""
     paths = [f"{TOP}/crates.txt", f"{TOP}/HANDLES"]
     for name in os.listdir(f"{TOP}/crates"):
-        for part in PARTS:
-            for at, _, files in os.walk(f"{TOP}/crates/{name}/{part}", followlinks=True):
-                paths += [at, *(f"{at}/{it}" for it in files)]
+        for folder in SOURCES:
+            for at, _, files in os.walk(f"{TOP}/crates/{name}/{folder}", followlinks=True):
+                paths += [at, *(f"{at}/{file}" for file in files)]
     try:
-        return any(os.stat(it).st_ctime >= since for it in paths)
+        return any(os.stat(path).st_ctime >= since for path in paths)
     except FileNotFoundError:
         return True

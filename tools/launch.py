@@ -5,10 +5,10 @@ import resource
 import signal
 import subprocess
 
-# GNU time, which measures what it starts by the system's own count. This script itself is too large: what it starts begins with
-# its memory.
+# GNU time, which measures what it starts by the system's own count. This script can't: what it starts begins with its own memory, which
+# is too large.
 TIME = "/usr/bin/time"
-# The size at which a file is full, where a stream has a room: one with room for j bytes begins j bytes before it.
+# The size at which a file is full, if a stream has a capacity: one with a capacity of j bytes begins j bytes before it.
 FULL = 1 << 26
 
 
@@ -17,7 +17,7 @@ class Answer:
     status: int
     output: bytes
     log: bytes
-    seconds: float = dataclasses.field(default=0.0, compare=False)  # processor time, where it is measured
+    seconds: float = dataclasses.field(default=0.0, compare=False)  # processor time, if it is measured
     kilobytes: int = dataclasses.field(default=0, compare=False)  # the greatest memory, of 1,024 bytes each
 
     def __str__(self):
@@ -39,7 +39,7 @@ def on_alarm(*_):
 
 
 class Runner:
-    """Runs programs on files that lie in memory, one run at a time."""
+    """Runs programs on files that are in memory, one run at a time."""
 
     def __init__(self, seconds=60):
         self.seconds = seconds
@@ -51,7 +51,7 @@ class Runner:
         os.pwrite(file, text, 0)
 
     def give(self, text):
-        """Sets what the runs from now on find on standard input."""
+        """Sets what the next runs find on standard input."""
         self.fill(self.input, text)
 
     def named(self, texts):
@@ -60,19 +60,19 @@ class Runner:
             self.fill(file, text)
         return [f"/proc/{os.getpid()}/fd/{file}" for file, _ in zip(self.files, texts)]
 
-    def run(self, words, output_room=None, log_room=None):
-        """The answer of the program, the first of the words. A stream with a room takes so many bytes, and fails then."""
-        rooms = {self.output: output_room, self.log: log_room}
-        for file, room in rooms.items():
+    def run(self, words, output_capacity=None, log_capacity=None):
+        """The answer of the program, the first of the words. A stream with a capacity takes that many bytes, and then fails."""
+        capacities = {self.output: output_capacity, self.log: log_capacity}
+        for file, capacity in capacities.items():
             os.ftruncate(file, 0)
-            os.lseek(file, begin(room), os.SEEK_SET)
+            os.lseek(file, begin(capacity), os.SEEK_SET)
         os.lseek(self.input, 0, os.SEEK_SET)
-        status = self.ended(words, any(room is not None for room in rooms.values()))
-        output, log = (written(file, begin(room)) for file, room in rooms.items())
+        status = self.ended(words, any(capacity is not None for capacity in capacities.values()))
+        output, log = (written(file, begin(capacity)) for file, capacity in capacities.items())
         return Answer(status, output, log)
 
     def measure(self, words, space=None):
-        """The answer of the program, with the time and the memory that it took. With a space it may map so many kB, used or not."""
+        """The answer of the program, with the time and the memory that it took. With a space it may map that many kB, used or not."""
         (path,) = self.named([b""])
         limited = ["/bin/sh", "-c", f'ulimit -v {space}; exec "$@"', "sh"] if space else []
         answer = self.run([TIME, "-q", "-f", "%U %S %M", "-o", path, *limited, *words])
@@ -82,7 +82,7 @@ class Runner:
 
     def ended(self, words, is_limited):
         """Runs the program to its end, and returns its status."""
-        streams = [(os.POSIX_SPAWN_DUP2, it, to) for to, it in enumerate((self.input, self.output, self.log))]
+        streams = [(os.POSIX_SPAWN_DUP2, file, to) for to, file in enumerate((self.input, self.output, self.log))]
         usual = resource.getrlimit(resource.RLIMIT_FSIZE)
         # The program has the limits of this script. Python leaves SIGXFSZ ignored, so a write answers EFBIG.
         if is_limited:
@@ -101,10 +101,10 @@ class Runner:
         return os.waitstatus_to_exitcode(status)
 
 
-def begin(room):
-    return 0 if room is None else FULL - room
+def begin(capacity):
+    return 0 if capacity is None else FULL - capacity
 
 
 def written(file, first):
-    """What stands in the file from this byte on."""
+    """What is in the file from this byte on."""
     return os.pread(file, max(0, os.fstat(file).st_size - first), first)

@@ -1,9 +1,9 @@
-"""Changes of the instance mini, in the words in which the table of fault lines tells them.
+"""Changes of the instance mini, in the words of the table of fault lines.
 
 The numbers are those of mini's own lines, also after other changes. A change is one of
 
     line 17 is `TEXT`
-    line 34 begins with `TEXT`              as many words as TEXT has are put in their place
+    line 34 begins with `TEXT`              its first words are replaced by TEXT, as many as TEXT has
     line 34 stands twice
     after it stand `TEXT` and `TEXT`        whole lines, after the line last spoken of
     a line `TEXT` after the last
@@ -25,7 +25,7 @@ class NotUnderstood(Exception):
 
 
 class Mini:
-    """The text, by the numbers of mini's lines: for each the lines that now stand there."""
+    """The text, by the numbers of mini's lines: for each the lines that are there now."""
 
     def __init__(self, text):
         lines = text.decode(errors="surrogateescape").split("\n")[:-1]
@@ -56,14 +56,14 @@ class Mini:
         self.at(max(self.lines)).append(text)
 
     def alone(self, number):
-        self.lines = {it: lines for it, lines in self.lines.items() if it <= int(number)}
+        self.lines = {line_number: lines for line_number, lines in self.lines.items() if line_number <= int(number)}
 
     def copies(self, first, last, number):
-        one = [line for it in range(int(first), int(last) + 1) for line in self.at(it)]
+        one = [line for line_number in range(int(first), int(last) + 1) for line in self.at(line_number)]
         self.at(last).extend(one * (int(number) - 1))
 
     def more_nurses(self, number):
-        (count, *_), names = self.at(19), [f"N{it}" for it in range(1, int(number) + 1)]
+        (count, *_), names = self.at(19), [f"N{nurse}" for nurse in range(1, int(number) + 1)]
         self.replace(19, f"NURSES = {int(count.split()[-1]) + len(names)}")
         for of_bob in (21, 28):
             rest = self.at(of_bob)[0].partition(" ")[2]
@@ -112,11 +112,11 @@ CHANGES = [
 
 
 def change(mini, words):
-    """Makes the change that the words tell."""
+    """Makes the change that the words describe."""
     for form, make in CHANGES:
-        told = re.fullmatch(form, words.strip())
-        if told:
-            return make(mini, *told.groups())
+        described = re.fullmatch(form, words.strip())
+        if described:
+            return make(mini, *described.groups())
     raise NotUnderstood(f"no such change: {words.strip()}")
 
 
@@ -128,11 +128,11 @@ def changed(text, changes):
     return mini.bytes()
 
 
-def parts(sentence):
-    """The changes that a sentence tells, joined by commas and 'and'."""
+def changes_in(sentence):
+    """The changes that a sentence describes, joined by commas and 'and'."""
     quoted = re.findall(r"`[^`]*`", sentence)
     masked = re.sub(r"`[^`]*`", "`", sentence)
     found = []
-    for part in re.split(rf", and |, (?=line|after|the |a |each |\d)", masked):
-        found.append(re.sub("`", lambda _: quoted.pop(0), part))
+    for words in re.split(rf", and |, (?=line|after|the |a |each |\d)", masked):
+        found.append(re.sub("`", lambda _: quoted.pop(0), words))
     return found

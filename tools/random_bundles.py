@@ -13,7 +13,7 @@ import tables
 TOP = os.path.dirname(os.path.dirname(os.path.realpath(__file__)))
 with open(f"{TOP}/README.md", encoding="utf-8") as file:
     LIMITS = tables.limits(file.read())
-GREATEST = tuple(LIMITS[it] for it in ("weeks", "skills", "shifts", "contracts", "nurses"))
+GREATEST = tuple(LIMITS[what] for what in ("weeks", "skills", "shifts", "contracts", "nurses"))
 DAYS = b"Mon Tue Wed Thu Fri Sat Sun".split()
 LONG_DAYS = b"Monday Tuesday Wednesday Thursday Friday Saturday Sunday".split()
 KEYWORDS = b"""SCENARIO WEEKS SKILLS SHIFT_TYPES FORBIDDEN_SHIFT_TYPES_SUCCESSIONS CONTRACTS NURSES HISTORY NURSE_HISTORY
@@ -36,12 +36,12 @@ class Ward:
     """A random ward, with a roster that keeps the hard rules most often. Shifts and skills are numbers."""
 
     def __init__(self, rng, least_weeks, has_days=False):
-        # (whether weeks may have absences and fixed days)
+        # with has_days, weeks may have absences and fixed days
         self.rng, self.has_days = rng, has_days
         self.wildness = rng.choice([0, 0, 0, 0, 0.002, 0.02])
         most = rng.choices([*SCALES], [*SCALES.values()])[0]
         is_full = most == GREATEST or chance(rng, 0.02)
-        counts = [it + chance(rng, 0.1) if is_full and chance(rng, 0.7) else rng.randint(1, it) for it in most]
+        counts = [number + chance(rng, 0.1) if is_full and chance(rng, 0.7) else rng.randint(1, number) for number in most]
         self.weeks, skills, shifts, contracts, nurses = counts
         if least_weeks:
             self.weeks = rng.randint(least_weeks, LIMITS["weeks"])
@@ -52,10 +52,10 @@ class Ward:
         self.skills_of = [rng.sample(range(skills), rng.randint(not chance(rng, 0.05), skills)) for _ in self.nurses]
         self.last = [rng.choice([None, *range(shifts)]) for _ in self.nurses]
         likely_off, care = rng.random(), rng.choice([1, 1, 1, 1, 0.99])
-        self.rows = [self.row(it, likely_off, care) for it in range(nurses)]
+        self.rows = [self.row(nurse, likely_off, care) for nurse in range(nurses)]
 
     def names(self, stem, count):
-        found = [b"%s%d" % (stem, it) for it in range(count)]
+        found = [b"%s%d" % (stem, number) for number in range(count)]
         if found and chance(self.rng, 0.1):
             found[self.rng.randrange(count)] = self.rng.choice([*ODD_WORDS, *KEYWORDS, *DAYS])
         return found
@@ -65,14 +65,14 @@ class Ward:
         row, before = [], self.last[nurse]
         skills = self.skills_of[nurse]
         for _ in range(7 * self.weeks):
-            after = [it for it in range(len(self.shifts)) if (before, it) not in self.forbidden or chance(self.rng, 1 - care)]
+            after = [shift for shift in range(len(self.shifts)) if (before, shift) not in self.forbidden or chance(self.rng, 1 - care)]
             is_off = not skills or not after or chance(self.rng, likely_off)
             row.append(None if is_off else (self.rng.choice(after), self.rng.choice(skills)))
             before = None if is_off else row[-1][0]
         return row
 
     def small(self, most):
-        """A number up to most; in a wild ward now and then one around the limits."""
+        """A number up to `most`; in a wild ward now and then one around the limits."""
         is_wild = chance(self.rng, self.wildness)
         number = self.rng.choice([998, 999, 999, 1000, 99_999]) if is_wild else self.rng.randint(0, most)
         return b"%0*d" % (self.rng.choice([0, 0, 0, 0, 5]) if self.wildness else 0, number)
@@ -90,23 +90,23 @@ class Ward:
         section = lambda keyword, names: [keyword, b"=", b"%d" % len(names)]
         days = self.rng.choice([2, 5, 7, 9])
         lines = [[b"SCENARIO", b"=", self.scenario], [b"WEEKS", b"=", b"%d" % self.weeks]]
-        lines += [section(b"SKILLS", self.skills), *([it] for it in self.skills)]
-        lines += [section(b"SHIFT_TYPES", self.shifts), *([it, *self.limits(days)] for it in self.shifts)]
+        lines += [section(b"SKILLS", self.skills), *([skill] for skill in self.skills)]
+        lines += [section(b"SHIFT_TYPES", self.shifts), *([shift, *self.limits(days)] for shift in self.shifts)]
         lines += [[b"FORBIDDEN_SHIFT_TYPES_SUCCESSIONS"], *self.successions()]
         lines += [section(b"CONTRACTS", self.contracts)]
-        for it in self.contracts:
+        for contract in self.contracts:
             pairs = [*self.limits(7 * self.weeks), *self.limits(days), *self.limits(days)]
-            lines += [[it, *pairs, self.small(self.weeks), b"%d" % self.rng.randint(0, 1)]]
+            lines += [[contract, *pairs, self.small(self.weeks), b"%d" % self.rng.randint(0, 1)]]
         lines += [section(b"NURSES", self.nurses)]
-        for it, skills in zip(self.nurses, self.skills_of):
+        for nurse, skills in zip(self.nurses, self.skills_of):
             contract = self.rng.choice(self.contracts or [b"C"])
-            lines += [[it, contract, b"%d" % len(skills), *(self.skills[skill] for skill in skills)]]
+            lines += [[nurse, contract, b"%d" % len(skills), *(self.skills[skill] for skill in skills)]]
         return lines
 
     def successions(self):
         lines = []
         for first, name in enumerate(self.shifts):
-            after = [self.shifts[second] for it, second in sorted(self.forbidden) if it == first]
+            after = [self.shifts[second] for before, second in sorted(self.forbidden) if before == first]
             after += [self.rng.choice(after)] if after and chance(self.rng, 0.05) else []
             if after or chance(self.rng, 0.7):
                 lines += [[name, b"%d" % len(after), *after]]
@@ -118,10 +118,10 @@ class Ward:
         order = [*range(len(self.nurses))]
         if chance(self.rng, 0.2):
             self.rng.shuffle(order)
-        for it in order:
-            last = b"None" if self.last[it] is None else self.shifts[self.last[it]]
+        for nurse in order:
+            last = b"None" if self.last[nurse] is None else self.shifts[self.last[nurse]]
             totals = [self.small(self.rng.choice([0, 9])), self.small(self.rng.choice([0, 3]))]
-            lines += [[self.nurses[it], *totals, last, *(self.small(9) for _ in range(3))]]
+            lines += [[self.nurses[nurse], *totals, last, *(self.small(9) for _ in range(3))]]
         return lines
 
     def week_lines(self, week):
@@ -132,14 +132,14 @@ class Ward:
             for skill, of in enumerate(self.skills):
                 if chance(self.rng, likely):
                     have = [cover[(shift, skill)] for cover in covers]
-                    lines += [[name, of, *(it for day in range(7) for it in self.need(have[day], is_strict))]]
-        # the first line may stand after others, too
+                    lines += [[name, of, *(token for day in range(7) for token in self.need(have[day], is_strict))]]
+        # any line may come first
         head, needs = lines[:3], lines[3:]
         self.rng.shuffle(needs)
         return [*head, *needs, *self.request_lines(), *self.absence_lines(week), *self.fixed_lines()]
 
     def need(self, have, is_strict):
-        """The minimum and the optimum of a day: one that is met, unless it is strict."""
+        """The minimum and the optimum of a day: the minimum is met, unless it is strict."""
         least = self.rng.choice([0, 0, 0, have, self.rng.randint(0, have), have + 1 if is_strict else 0])
         return [b"(", b"%d" % least, b",", self.small(3), b")"]
 
@@ -159,9 +159,9 @@ class Ward:
         if not self.has_days or chance(self.rng, 0.5):
             return []
         is_careful, days = chance(self.rng, 0.9), range(7 * week, 7 * week + 7)
-        free = [(it, day) for it, row in zip(self.nurses, self.rows) for day in days if not (is_careful and row[day])]
+        free = [(nurse, day) for nurse, row in zip(self.nurses, self.rows) for day in days if not (is_careful and row[day])]
         lines = self.rng.sample(free, min(len(free), self.rng.choice([0, 1, self.rng.randint(0, 9)])))
-        return [[b"ABSENCES", b"=", b"%d" % len(lines)], *([it, self.day(day % 7)] for it, day in lines)]
+        return [[b"ABSENCES", b"=", b"%d" % len(lines)], *([nurse, self.day(day % 7)] for nurse, day in lines)]
 
     def fixed_lines(self):
         """In half of the weeks a section of fixed days, of any nurses, some of them twice."""
@@ -198,53 +198,53 @@ class Ward:
         return lines + [line for week in weeks for line in self.solution_lines(week)]
 
 
-# ---- changes of lines: each takes the generator and the lines, of which there is one at least
+# ---- changes of lines: each takes the generator and the lines, of which there is at least one
 
 
-def place(rng, lines):
+def any_token(rng, lines):
     """The number of a line that has tokens, and of a token in it."""
-    line = rng.choice([it for it, tokens in enumerate(lines) if tokens] or [0])
+    line = rng.choice([number for number, tokens in enumerate(lines) if tokens] or [0])
     return line, rng.randrange(len(lines[line]) or 1)
 
 
 def any_word(rng, lines):
-    other, token = place(rng, lines)
-    known = lines[other][token : token + 1] or [b"x"]
-    return rng.choice([*known * 4, rng.choice(KEYWORDS), rng.choice(NUMBERS), rng.choice(MARKS), rng.choice(ODD_WORDS), b"Sun"])
+    other, token = any_token(rng, lines)
+    word = lines[other][token : token + 1] or [b"x"]
+    return rng.choice([*word * 4, rng.choice(KEYWORDS), rng.choice(NUMBERS), rng.choice(MARKS), rng.choice(ODD_WORDS), b"Sun"])
 
 
 def drop_token(rng, lines):
-    line, token = place(rng, lines)
+    line, token = any_token(rng, lines)
     del lines[line][token : token + 1]
 
 
 def double_token(rng, lines):
-    line, token = place(rng, lines)
+    line, token = any_token(rng, lines)
     lines[line][token:token] = lines[line][token : token + 1]
 
 
 def swap_tokens(rng, lines):
-    line, first = place(rng, lines)
+    line, first = any_token(rng, lines)
     if lines[line]:
         second = rng.randrange(len(lines[line]))
         lines[line][first], lines[line][second] = lines[line][second], lines[line][first]
 
 
 def replace_token(rng, lines):
-    line, token = place(rng, lines)
+    line, token = any_token(rng, lines)
     lines[line][token : token + 1] = [any_word(rng, lines)]
 
 
 def insert_token(rng, lines):
-    line, token = place(rng, lines)
+    line, token = any_token(rng, lines)
     lines[line].insert(token, any_word(rng, lines))
 
 
 def replace_everywhere(rng, lines):
-    """One word in place of another, wherever that stands."""
-    line, token = place(rng, lines)
+    """One word in place of another, wherever that is."""
+    line, token = any_token(rng, lines)
     old, new = lines[line][token : token + 1], any_word(rng, lines)
-    lines[:] = [[new if [it] == old else it for it in tokens] for tokens in lines]
+    lines[:] = [[new if [token] == old else token for token in tokens] for tokens in lines]
 
 
 def is_name(token):
@@ -253,7 +253,7 @@ def is_name(token):
 
 def replace_name(rng, lines):
     """A name in place of another, so that the grammar is kept and the names are wrong."""
-    names = [(line, it) for line, tokens in enumerate(lines) for it, token in enumerate(tokens) if is_name(token)]
+    names = [(line, number) for line, tokens in enumerate(lines) for number, token in enumerate(tokens) if is_name(token)]
     if names:
         (line, token), (other, new) = rng.choice(names), rng.choice(names)
         lines[line][token] = rng.choice([lines[other][new]] * 6 + [b"Any", b"None", b"nobody"])
@@ -261,16 +261,16 @@ def replace_name(rng, lines):
 
 def double_counted(rng, lines):
     """A line twice, and one more in the count of its section."""
-    heads = [it for it, tokens in enumerate(lines) if len(tokens) == 3 and tokens[1] == b"=" and tokens[2].isdigit()]
+    heads = [number for number, tokens in enumerate(lines) if len(tokens) == 3 and tokens[1] == b"=" and tokens[2].isdigit()]
     line = rng.randrange(len(lines))
-    above = [it for it in heads if it < line]
+    above = [head for head in heads if head < line]
     if above:
         lines[above[-1]][2] = b"%d" % (int(lines[above[-1]][2]) + 1)
         lines.insert(line, [*lines[line]])
 
 
 def count_off_by_one(rng, lines):
-    numbers = [(line, it) for line, tokens in enumerate(lines) for it, token in enumerate(tokens) if token.isdigit()]
+    numbers = [(line, number) for line, tokens in enumerate(lines) for number, token in enumerate(tokens) if token.isdigit()]
     heads = [at for at in numbers if lines[at[0]][at[1] - 1 : at[1]] == [b"="]]
     if numbers:
         line, token = rng.choice(heads if heads and chance(rng, 0.5) else numbers)
@@ -285,7 +285,7 @@ def drop_lines(rng, lines):
 def double_lines(rng, lines):
     first = rng.randrange(len(lines))
     last = first + rng.choice([1, 1, 1, rng.randint(1, 9)])
-    lines[last:last] = [[*it] for it in lines[first:last]]
+    lines[last:last] = [[*tokens] for tokens in lines[first:last]]
 
 
 def swap_lines(rng, lines):
@@ -299,7 +299,7 @@ def move_line(rng, lines):
 
 
 def cut(rng, lines):
-    line, token = place(rng, lines)
+    line, token = any_token(rng, lines)
     lines[line + 1 :] = []
     del lines[line][token:]
 

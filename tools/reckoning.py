@@ -1,5 +1,5 @@
-"""A reckoning of the soft rules by code of its own: what a roster costs, a nurse's best row, a run of
-the improver, and a floor under all rosters.
+"""A reckoning of the rules by code of its own: what a roster costs, a nurse's best row, a run of the improver, and a lower bound
+on what any roster costs.
 
 The rules are those of docs/RULES.md, in their words and not in the program's. A choice is None, or a shift and a skill; a row
 has one for each day, and a roster has a row for each nurse. Shifts, skills, contracts and nurses are numbers.
@@ -15,10 +15,10 @@ Limits = collections.namedtuple("Limits", "least greatest")
 Contract = collections.namedtuple("Contract", "assignments working off weekends whole_weekends")
 Nurse = collections.namedtuple("Nurse", "name contract skills history")
 History = collections.namedtuple("History", "assignments weekends last of_last working off")
-# Of a case `shifts` has the name and the limits of each, `skills` the names, `forbidden` the pairs of shifts, `needs` for each
-# shift and skill a minimum and an optimum for each day, `requests` and `wishes` a nurse, a shift or None for any, and a day,
-# `absences` and `fixed` a nurse and a day. A day counts from the first Monday. `base` is a roster that is kept, at `keep` points for
-# each day that becomes another; the texts say neither.
+# In a case, `shifts` holds the name and the limits of each shift, `skills` the names, and `forbidden` pairs of shifts; `needs` holds
+# for each shift and skill a minimum and an optimum of each day; `requests` and `wishes` hold a nurse, a shift or None for any, and a
+# day; `absences` and `fixed` hold a nurse and a day. Days count from the first Monday. `base` is a roster that is to be kept, and each
+# day on which another one differs from it costs `keep` points; the texts say neither.
 FIELDS = "name weeks shifts skills forbidden contracts nurses needs requests wishes absences fixed base keep"
 Case = collections.namedtuple("Case", FIELDS, defaults=(None, 0))
 Shift = collections.namedtuple("Shift", "name limits")
@@ -36,7 +36,8 @@ def shifts_of(row):
 
 
 def violations(days, before, limits):
-    """The missing and the extra days of the runs of a kind: which days are of it, and how many of it stand right before."""
+    """How many days the runs of a kind are short or too long: `days` says which days are of the kind, and `before` how many days of it
+    come right before the first."""
     found = max(0, limits.least - before) if before and not days[0] else 0
     for is_kind, run in itertools.groupby(range(len(days)), lambda day: days[day]):
         if is_kind:
@@ -58,44 +59,44 @@ def total_costs(contract, total, weekends):
 
 
 def own_costs(case, nurse, shifts):
-    """What the days of a nurse cost by themselves, by rule: runs, weekends and totals."""
+    """What the days of a nurse cost apart from the other nurses, by rule: runs, weekends and totals."""
     contract, history = case.contracts[nurse.contract], nurse.history
     worked = [shift is not None for shift in shifts]
     is_after_work = history.last is not None
     costs = {"S2": 30 * violations(worked, history.working if is_after_work else 0, contract.working)}
-    costs["S3"] = 30 * violations([not it for it in worked], 0 if is_after_work else history.off, contract.off)
+    costs["S3"] = 30 * violations([not works for works in worked], 0 if is_after_work else history.off, contract.off)
     for number, shift in enumerate(case.shifts):
         before = history.of_last if history.last == number else 0
-        costs["S2"] += 15 * violations([it == number for it in shifts], before, shift.limits)
+        costs["S2"] += 15 * violations([shift == number for shift in shifts], before, shift.limits)
     weekends = list(zip(worked[SATURDAY::7], worked[SUNDAY::7]))
     costs["S5"] = 30 * contract.whole_weekends * sum(saturday != sunday for saturday, sunday in weekends)
     return costs | total_costs(contract, history.assignments + sum(worked), history.weekends + sum(map(any, weekends)))
 
 
 def own_cost(case, nurse, shifts):
-    """What the days of a nurse cost by themselves, together."""
+    """What the days of a nurse cost apart from the other nurses, in all."""
     return sum(own_costs(case, nurse, shifts).values())
 
 
 def keeping(case, roster, points):
-    """The case in which each day that becomes another shift than in this roster, or off, costs so many points."""
+    """The case in which a nurse's day with another shift than in this roster costs that many points; off counts as a shift."""
     return case._replace(base=roster, keep=points) if points else case
 
 
 def is_changed(case, number, day, choice):
-    """Whether a choice is another shift than in the roster that is kept, or off where that isn't."""
+    """Whether a choice has another shift than the roster that is to be kept; off counts as a shift."""
     was = case.base[number][day]
     return (was[0] if was else None) != (choice[0] if choice else None)
 
 
 def moved_days(before, after):
-    """On how many days of all nurses the shifts of two rosters differ: another skill alone is none."""
+    """On how many days of all nurses two rosters differ in the shift; another skill alone doesn't count."""
     days = (pair for rows in zip(before, after) for pair in zip(*map(shifts_of, rows)))
     return sum(was != now for was, now in days)
 
 
 def request_costs(case, number, day, choice):
-    """The off requests of the nurse of this number against a choice, the wishes that it doesn't meet, and what is kept, by rule."""
+    """What a choice costs this nurse on this day for an off request, a wish that it doesn't meet, and a roster to keep, by rule."""
     asked = choice and any((number, shift, day) in case.requests for shift in (choice[0], None))
     wished = [shift for shift in (None, *range(len(case.shifts))) if (number, shift, day) in case.wishes]
     met = all(choice and shift in (choice[0], None) for shift in wished)
@@ -120,13 +121,14 @@ def meets_minimums(case, day, covers):
 
 
 def costs(case, roster):
-    """What each rule costs, by its name, in the order of their numbers."""
-    found = dict.fromkeys((f"S{it}" for it in range(1, 10 if case.keep else 9)), 0)
+    """What each rule costs, by its name, in the order of the numbers."""
+    found = dict.fromkeys((f"S{rule}" for rule in range(1, 10 if case.keep else 9)), 0)
     found["S1"] = sum(staffing(case, day, cover(row[day] for row in roster)) for day in days_of(case))
     for number, (nurse, row) in enumerate(zip(case.nurses, roster)):
-        parts = [own_costs(case, nurse, shifts_of(row)), *(request_costs(case, number, day, row[day]) for day in days_of(case))]
-        for rule, cost in (it for part in parts for it in part.items()):
-            found[rule] += cost
+        of_row = [own_costs(case, nurse, shifts_of(row)), *(request_costs(case, number, day, row[day]) for day in days_of(case))]
+        for costs_by_rule in of_row:
+            for rule, cost in costs_by_rule.items():
+                found[rule] += cost
     return found
 
 
@@ -138,7 +140,7 @@ def penalty(case, roster):
 # ---- the hard rules
 
 
-# Of a minimum that is missed `number` is None, else it is the nurse's.
+# `number` is the nurse's, or None if a minimum isn't met.
 Breach = collections.namedtuple("Breach", "rule number day line")
 
 
@@ -149,14 +151,13 @@ def follows(case, nurse, shifts):
 
 
 def missed_minimums(case, roster):
-    """H2, by day, shift and skill."""
+    """The breaches of H2, by day, shift and skill."""
     for day in days_of(case):
         covers = cover(row[day] for row in roster)
         for (shift, skill), need in sorted(case.needs.items()):
             if covers[shift, skill] < need[day].least:
-                place = f"{case.shifts[shift].name} {case.skills[skill]}"
-                told = f"{place}: {covers[shift, skill]} of {need[day].least}"
-                yield Breach("H2", None, day, f"H2 week {day // 7} {DAYS[day % 7]} {told}")
+                slot = f"week {day // 7} {DAYS[day % 7]} {case.shifts[shift].name} {case.skills[skill]}"
+                yield Breach("H2", None, day, f"H2 {slot}: {covers[shift, skill]} of {need[day].least}")
 
 
 def breaks_succession(case, number, row, day):
@@ -173,7 +174,7 @@ def works_absent(case, number, row, day):
 
 
 def breaches_of_rows(case, roster):
-    """The days on which rows break H3, H4 and absences: one rule after the other, each by nurse and day."""
+    """The days on which rows break H3, H4 or an absence: one rule after the other, each by nurse and day."""
     for rule, is_broken in {"H3": breaks_succession, "H4": lacks_skill, "absent": works_absent}.items():
         for number, row in enumerate(roster):
             for day in days_of(case):
@@ -182,7 +183,7 @@ def breaches_of_rows(case, roster):
 
 
 def breaches(case, roster):
-    """Where a roster breaks a hard rule, H1 left out: in the order in which the program looks, with the lines that tell it."""
+    """Where a roster breaks a hard rule other than H1, in the order in which the program looks, each with the line that reports it."""
     return [*missed_minimums(case, roster), *breaches_of_rows(case, roster)]
 
 
@@ -190,18 +191,18 @@ def breaches(case, roster):
 
 
 def without_absent_work(case, roster):
-    """The roster in which who is absent is off."""
+    """The roster in which absent nurses are off."""
     return [[None if (number, day) in case.absences else choice for day, choice in enumerate(row)] for number, row in enumerate(roster)]
 
 
 def lacking(case, roster):
-    """How many nurses the minimums miss, where absent ones don't count."""
+    """By how many nurses the cover is short of the minimums, if absent nurses don't count."""
     covers = [cover(of_day) for of_day in zip(*without_absent_work(case, roster))]
     return sum(max(0, need[day].least - covers[day][at]) for at, need in case.needs.items() for day in days_of(case))
 
 
 def is_unplannable(case, breach, first_week):
-    """Whether no free day can mend it: of a succession neither day is free, and on the day of a minimum no nurse is."""
+    """Whether no free day can repair a breach: neither day of a succession is free, or no nurse is free on the day of a minimum."""
     stays = lambda number, day: is_frozen(case, number, day, first_week)
     if breach.rule == "H2":
         return all(stays(number, breach.day) for number in range(len(case.nurses)))
@@ -210,11 +211,11 @@ def is_unplannable(case, breach, first_week):
 
 
 def unplannable(case, roster, first_week):
-    """What 'plan' can't mend: missing skills, and then what rows break on frozen days, and minimums missed there. In the order in which
-    it is told."""
+    """What 'plan' can't repair, in the order in which it reports it: missing skills, then what rows break on frozen days, then minimums
+    that aren't met there."""
     found = [*breaches_of_rows(case, roster), *missed_minimums(case, roster)]
-    frozen = [it for it in found if it.rule != "H4" and is_unplannable(case, it, first_week)]
-    return [it for it in found if it.rule == "H4"] + frozen
+    frozen = [breach for breach in found if breach.rule != "H4" and is_unplannable(case, breach, first_week)]
+    return [breach for breach in found if breach.rule == "H4"] + frozen
 
 
 # ---- the best row
@@ -228,26 +229,26 @@ def choices_of(case, number, day):
 
 
 def is_frozen(case, number, day, first_week):
-    """Whether a day of a nurse stays: it is before the first week that may change, or fixed."""
+    """Whether a nurse's day may not change: it comes before the first week that may change, or it is fixed."""
     return day // 7 < first_week or (number, day) in case.fixed
 
 
 def offers_of(case, roster, number, first_week=0):
-    """For each day what the minimums leave to a nurse, in the order of choices, with its price there. On a frozen day that is the
-    present choice alone."""
+    """For each day the choices that the minimums leave to a nurse, in the order of choices, with their prices. On a frozen day that is
+    the present choice alone."""
     offers = []
     for day in days_of(case):
         choices = choices_of(case, number, day)
         others = [row[day] for other, row in enumerate(roster) if other != number]
-        free = [it for it in choices if it == roster[number][day]] if is_frozen(case, number, day, first_week) else choices
+        free = [choice for choice in choices if choice == roster[number][day]] if is_frozen(case, number, day, first_week) else choices
         covers = {choice: cover([*others, choice]) for choice in free}
         offered = [choice for choice in free if meets_minimums(case, day, covers[choice])]
-        offers.append([(it, staffing(case, day, covers[it]) + request_cost(case, number, day, it)) for it in offered])
+        offers.append([(choice, staffing(case, day, covers[choice]) + request_cost(case, number, day, choice)) for choice in offered])
     return offers
 
 
 def missing(length, limits):
-    """What is missing to a run that ends; one of no day is none."""
+    """By how many days a run that ends is too short; a run of no day is none."""
     return max(0, limits.least - length) if length else 0
 
 
@@ -257,8 +258,8 @@ def counted(length, limits):
 
 
 def one_day_more(case, contract, state, shift, day):
-    """What a day costs by the runs that it ends or makes too long and by its weekend, and the state after it. A state has the
-    last shift, the run of working or free days, the run of that shift, the assignments and the worked weekends."""
+    """What a day costs for the runs that it ends or makes too long and for its weekend, and the state after it. A state is the last
+    shift, the run of working or free days, the run of that shift, the assignments and the worked weekends."""
     last, run, of_last, total, weekends = state
     works, worked = shift is not None, last is not None
     kinds, cost = {True: contract.working, False: contract.off}, 0
@@ -280,30 +281,30 @@ def one_day_more(case, contract, state, shift, day):
 
 
 def cheapest_row(case, number, all_offers):
-    """What the first of the cheapest rows of a nurse costs by these offers, and the row. Of all beginnings of rows that leave the
-    same state, the cheapest is kept, of equally cheap ones the first."""
+    """What the first of a nurse's cheapest rows among these offers costs, and the row. Of all beginnings of rows that lead to the same
+    state the cheapest is kept, of equally cheap ones the first."""
     nurse = case.nurses[number]
     contract, past = case.contracts[nurse.contract], nurse.history
     run = past.off if past.last is None else past.working
     of_last = 0 if past.last is None else past.of_last
     kept = {(past.last, run, of_last, past.assignments, past.weekends): (0, ())}
     for day, offers in enumerate(all_offers):
-        # of the choices of one shift only the first of the cheapest can be in the best row
+        # of the choices with one shift only the first of the cheapest can be in the best row
         of_shifts = {}
-        for place, (choice, price) in enumerate(offers):
+        for index, (choice, price) in enumerate(offers):
             shift = choice and choice[0]
-            of_shifts[shift] = min(of_shifts.get(shift, (price, place)), (price, place))
+            of_shifts[shift] = min(of_shifts.get(shift, (price, index)), (price, index))
         found = {}
         for state, (cost, row) in kept.items():
-            for shift, (price, place) in of_shifts.items():
+            for shift, (price, index) in of_shifts.items():
                 if (state[0], shift) not in case.forbidden:
                     more, after = one_day_more(case, contract, state, shift, day)
-                    label = (cost + price + more, (*row, place))
+                    label = (cost + price + more, (*row, index))
                     found[after] = min(found.get(after, label), label)
         kept = found
     ends = [(cost + total_cost(contract, *state[3:]), row) for state, (cost, row) in kept.items()]
     cost, row = min(ends)
-    return cost, [offers[place][0] for offers, place in zip(all_offers, row)]
+    return cost, [offers[index][0] for offers, index in zip(all_offers, row)]
 
 
 def best_row(case, roster, number, first_week=0):
@@ -316,7 +317,7 @@ def best_row(case, roster, number, first_week=0):
 
 # An assignment: a day, a shift, and a skill or None for any.
 Asked = collections.namedtuple("Asked", "day shift skill")
-# What is told of a nurse: how many are missed, the penalty, her number, and on how many days her row is another choice.
+# What 'who' reports of a nurse: by how many nurses the cover is short, the penalty, her number, and on how many days her row changes.
 Taker = collections.namedtuple("Taker", "missed penalty number changed")
 
 
@@ -325,23 +326,23 @@ def missed_on(case, day, covers):
 
 
 def taking_offers(case, here, number, asked, first_week=0):
-    """For each day what a nurse may do in a row that has the assignment, in the order of choices, with its price: no place misses more
-    nurses than it does, and each nurse who is missed counts a million."""
+    """For each day what a nurse may do in a row with the assignment, in the order of choices, with its price: no slot may be short of
+    its minimum by more than it is now, and each nurse who is lacking counts a million."""
     offers = []
     for day in days_of(case):
         now = cover(row[day] for row in here)
         free = [here[number][day]] if is_frozen(case, number, day, first_week) else choices_of(case, number, day)
         if day == asked.day:
-            free = [it for it in free if it and it[0] == asked.shift and asked.skill in (None, it[1])]
-        covers = {it: cover(it if other == number else row[day] for other, row in enumerate(here)) for it in free}
+            free = [choice for choice in free if choice and choice[0] == asked.shift and asked.skill in (None, choice[1])]
+        covers = {choice: cover(choice if other == number else row[day] for other, row in enumerate(here)) for choice in free}
         keeps = lambda after: all(after[at] >= min(need[day].least, now[at]) for at, need in case.needs.items())
-        of_day = lambda it: 1_000_000 * missed_on(case, day, covers[it]) + staffing(case, day, covers[it])
-        offers.append([(it, of_day(it) + request_cost(case, number, day, it)) for it in free if keeps(covers[it])])
+        of_day = lambda choice: 1_000_000 * missed_on(case, day, covers[choice]) + staffing(case, day, covers[choice])
+        offers.append([(choice, of_day(choice) + request_cost(case, number, day, choice)) for choice in free if keeps(covers[choice])])
     return offers
 
 
 def takers(case, roster, asked, first_week, row_of):
-    """What is told of each nurse who has a row with the assignment, in order. `row_of` finds it among all rows of her offers."""
+    """What 'who' reports of each nurse who has a row with the assignment, in order. `row_of` finds that row among her offers' rows."""
     here, found = without_absent_work(case, roster), []
     for number in range(len(case.nurses)):
         row = row_of(case, number, taking_offers(case, here, number, asked, first_week))
@@ -353,7 +354,7 @@ def takers(case, roster, asked, first_week, row_of):
 
 
 def cheapest_taking_row(case, number, offers):
-    """The first of the cheapest rows of these offers, or None where there is none."""
+    """The first of the cheapest rows of these offers, or None if there is none."""
     try:
         return cheapest_row(case, number, offers)[1]
     except ValueError:
@@ -363,185 +364,188 @@ def cheapest_taking_row(case, number, offers):
 def who_lines(case, roster, asked, first_week=0, row_of=cheapest_taking_row):
     """What 'who' writes."""
     is_missed = lacking(case, roster) > 0
-    line = lambda it: f"{case.nurses[it.number].name} {it.penalty} changed {it.changed}" + f" missed {it.missed}" * is_missed
-    return "".join(f"{line(it)}\n" for it in takers(case, roster, asked, first_week, row_of))
+    line = lambda taker: f"{case.nurses[taker.number].name} {taker.penalty} changed {taker.changed}" + f" missed {taker.missed}" * is_missed
+    return "".join(f"{line(taker)}\n" for taker in takers(case, roster, asked, first_week, row_of))
 
 
 def with_row(roster, number, row):
     return [*roster[:number], row, *roster[number + 1 :]]
 
 
-# ---- a floor under all rosters
+# ---- a lower bound on what any roster costs
 
 
-def even_worths(case, worth):
-    """What a nurse at work is paid, by shift and skill, on each day: so much where any are asked for."""
-    return {at: [worth if max(need) else 0 for need in of_days] for at, of_days in case.needs.items()}
+def even_dual_prices(case, dual_price):
+    """One dual price for each slot that asks for nurses, and 0 for the others: by shift and skill, a list over the days."""
+    return {at: [dual_price if max(need) else 0 for need in of_days] for at, of_days in case.needs.items()}
 
 
-def place_floor(need, worth):
-    """The least that a shift, a skill and a day cost with the minimum or more: for the nurses that are missing and for the pay."""
-    return min(30 * max(0, need.greatest - nurses) + worth * nurses for nurses in range(need.least, max(need) + 1))
+def slot_bound(need, dual_price):
+    """The least that a slot costs with its minimum or more, over all covers: for the nurses that are lacking, and the dual price of
+    each nurse who is there."""
+    return min(30 * max(0, need.greatest - nurses) + dual_price * nurses for nurses in range(need.least, max(need) + 1))
 
 
-def nurse_floor(case, roster, number, worths, first_week=0):
-    """The least that a nurse costs less what her places pay, over all rows with her skills and absences and without a forbidden
-    succession. On frozen days she does what the roster says. And the first of the cheapest of these rows."""
-    worth = lambda day, choice: worths[choice][day] if choice in worths else 0
+def row_bound(case, roster, number, dual_prices, first_week=0):
+    """The least reduced cost of a nurse's rows, and the first of the rows that have it. The rows are those with her skills and absences
+    and without a forbidden succession, which agree with the roster on frozen days."""
+    dual_price = lambda day, choice: dual_prices[choice][day] if choice in dual_prices else 0
     free = lambda day: [roster[number][day]] if is_frozen(case, number, day, first_week) else choices_of(case, number, day)
-    price = lambda day, choice: request_cost(case, number, day, choice) - worth(day, choice)
-    return cheapest_row(case, number, [[(it, price(day, it)) for it in free(day)] for day in days_of(case)])
+    price = lambda day, choice: request_cost(case, number, day, choice) - dual_price(day, choice)
+    return cheapest_row(case, number, [[(choice, price(day, choice)) for choice in free(day)] for day in days_of(case)])
 
 
-def floor(case, roster, worths, first_week=0):
-    """No roster costs less that keeps the hard rules and the frozen days: what is paid to the nurses is what they get. Each
-    penalty is a multiple of 5, unless a roster is kept at points that aren't. And the rows by which it is reckoned."""
-    places = sum(place_floor(need, worth) for at in case.needs for need, worth in zip(case.needs[at], worths[at]))
-    nurses = [nurse_floor(case, roster, number, worths, first_week) for number in range(len(case.nurses))]
+def lower_bound(case, roster, dual_prices, first_week=0):
+    """The lower bound of these dual prices, and the rows that it was reckoned by: every roster that keeps the hard rules and the frozen
+    days costs at least that much, since the dual prices that slots add are those that rows save. Each penalty is a multiple of 5,
+    unless a roster is kept at points that aren't, so the bound is rounded up to one."""
+    slots = sum(slot_bound(need, price) for at in case.needs for need, price in zip(case.needs[at], dual_prices[at]))
+    rows = [row_bound(case, roster, number, dual_prices, first_week) for number in range(len(case.nurses))]
     unit = 1 if case.keep % 5 else 5
-    return unit * -(-max(0, places + sum(least for least, _ in nurses)) // unit), [row for _, row in nurses]
+    return unit * -(-max(0, slots + sum(least for least, _ in rows)) // unit), [row for _, row in rows]
 
 
-# ---- how worths go on from round to round: the program's own affair, told here for its tests. They are held in parts of a point. What
-# is wanted at a place and what is there are sums that fade.
+# ---- how dual prices go on from round to round. That is the program's own affair, and is reckoned here for its tests. Dual prices are
+# held in fractions of a point. The wanted cover of a slot and its cover are sums in which earlier rows count less and less.
 
-# In how many parts of a point.
-PARTS = 16_384
-# How often worths move between two rounds, and how many rows of each nurse are kept.
-MOVES = 20
-KEPT = 64
+# A point has that many fractions.
+FRACTIONS = 16_384
+# How many subgradient steps there are between two rounds, and how many rows the pool keeps for each nurse.
+STEPS = 20
+POOLED = 64
 
 
 def points(fine):
-    return (fine + PARTS // 2) // PARTS
+    return (fine + FRACTIONS // 2) // FRACTIONS
 
 
-def faded(before, more):
+def decayed(before, more):
     return min(256 * more + before * 179 // 256, 1 << 20)
 
 
-def greatest_step(made, rounds):
-    """18 points by the third power of the share of the rounds that are left, each time rounded down."""
-    step = 18 * PARTS
+def step_length(made, steps):
+    """18 points times the third power of the share of the steps that are left, rounded down each time."""
+    length = 18 * FRACTIONS
     for _ in range(3):
-        step = step * (rounds - made) // rounds
-    return step
+        length = length * (steps - made) // steps
+    return length
 
 
-def shares(wanted, had, step):
-    """For each thing its share of a step: the whole step where wanted and had are farthest apart, or one apart at most."""
-    apart = {it: abs(wanted[it] - had[it]) for it in wanted}
-    return {it: min(apart[it] * step // max(1, *apart.values()), step) for it in wanted}
+def slot_steps(wanted, had, length):
+    """How far the dual price of each slot moves: by the whole step length if its cover is farthest from the wanted one, or if none is
+    more than one away."""
+    apart = {slot: abs(wanted[slot] - had[slot]) for slot in wanted}
+    return {slot: min(apart[slot] * length // max(1, *apart.values()), length) for slot in wanted}
 
 
-def next_worth(fine, wanted, had, share):
-    """More where nurses are wanted, less where there are too many, up to 200,000 points."""
-    return min(fine + share, 200_000 * PARTS) if had < wanted else max(0, fine - share) if wanted < had else fine
+def next_dual_price(fine, wanted, had, step):
+    """Higher if nurses are lacking, up to 200,000 points, and lower if there are too many."""
+    return min(fine + step, 200_000 * FRACTIONS) if had < wanted else max(0, fine - step) if wanted < had else fine
 
 
 def is_late(made, rounds):
-    """In the last fifth of the rounds the next one is made by whole worths."""
+    """Whether coordinate ascent sets the dual prices of the next round: it does in the last fifth of the rounds."""
     return 5 * made >= 4 * rounds
 
 
-class Seen:
-    """The rows that were found last for a nurse, each with what it costs her beside what places pay."""
+class ColumnPool:
+    """The rows that were found last for a nurse, each with when it was found and what it costs apart from dual prices."""
 
     def __init__(self, case, number):
         self.case, self.number, self.rows = case, number, []
 
     def keep(self, turn, row):
-        """Keeps a row: where it is already, or else after the others, or in the place of the one that was found longest ago."""
+        """Keeps a row: at its own index if it is there already, else after the others, or in place of the one found longest ago."""
         shifts = shifts_of(row)
         asked = sum(request_cost(self.case, self.number, day, choice) for day, choice in enumerate(row))
         cost = own_cost(self.case, self.case.nurses[self.number], shifts) + asked
-        known = [it for it, (_, other, _) in enumerate(self.rows) if other == row]
-        if not known and len(self.rows) < KEPT:
+        same = [index for index, (_, other, _) in enumerate(self.rows) if other == row]
+        if not same and len(self.rows) < POOLED:
             self.rows.append((turn, row, cost))
         else:
-            self.rows[known[0] if known else self.rows.index(min(self.rows))] = (turn, row, cost)
+            self.rows[same[0] if same else self.rows.index(min(self.rows))] = (turn, row, cost)
 
-    def cheapest(self, worths):
-        """The first of the cheapest of them by these worths."""
-        paid = lambda row: sum(worths[(*choice, day)] for day, choice in enumerate(row) if choice)
-        return min(self.rows, key=lambda it: PARTS * it[2] - paid(it[1]))[1]
+    def cheapest(self, dual_prices):
+        """The first of the pooled rows with the least reduced cost."""
+        saved = lambda row: sum(dual_prices[(*choice, day)] for day, choice in enumerate(row) if choice)
+        return min(self.rows, key=lambda pooled: FRACTIONS * pooled[2] - saved(pooled[1]))[1]
 
 
-class Moves:
-    """The worths of the places of a run, with what moves them."""
+class DualPrices:
+    """The dual prices of all slots in a run of rounds, and what moves them."""
 
     def __init__(self, case, rounds):
         self.case, self.rounds, self.made, self.turn = case, rounds, 0, 0
-        self.places = list(itertools.product(range(len(case.shifts)), range(len(case.skills)), days_of(case)))
-        self.set_worths(30)
-        self.tried = {it: points(self.worths[it]) for it in self.places}
-        self.wanted, self.had = dict.fromkeys(self.places, 0), dict.fromkeys(self.places, 0)
-        self.seen = [Seen(case, number) for number in range(len(case.nurses))]
+        self.slots = list(itertools.product(range(len(case.shifts)), range(len(case.skills)), days_of(case)))
+        self.set_all(30)
+        self.tried = {slot: points(self.fine[slot]) for slot in self.slots}
+        self.wanted, self.had = dict.fromkeys(self.slots, 0), dict.fromkeys(self.slots, 0)
+        self.pools = [ColumnPool(case, number) for number in range(len(case.nurses))]
 
     def need(self, shift, skill, day):
         return self.case.needs[shift, skill][day] if (shift, skill) in self.case.needs else Limits(0, 0)
 
-    def set_worths(self, worth):
-        self.worths = {it: PARTS * worth if max(self.need(*it)) else 0 for it in self.places}
+    def set_all(self, dual_price):
+        self.fine = {slot: FRACTIONS * dual_price if max(self.need(*slot)) else 0 for slot in self.slots}
 
     def in_points(self):
         return {at: [self.tried[(*at, day)] for day in days_of(self.case)] for at in self.case.needs}
 
-    def climb(self):
-        """Place by place, by day, takes the other of the two whole points about a worth where the places and the cheapest known rows then
-        cost more together."""
-        paid = lambda row: sum(self.tried[(*choice, day)] for day, choice in enumerate(row) if choice)
-        rows = [[[cost - paid(row), row] for _, row, cost in seen.rows] for seen in self.seen]
-        for place in sorted(self.places, key=lambda it: (it[2], it[0], it[1])):
-            shift, skill, day = place
-            now, need = self.tried[place], self.need(*place)
-            more = (self.worths[place] > PARTS * now) - (self.worths[place] < PARTS * now)
-            takes = lambda row: row[day] == (shift, skill)
-            gain = place_floor(need, now + more) - place_floor(need, now)
-            gain += sum(min(cost - more * takes(row) for cost, row in of) - min(cost for cost, _ in of) for of in rows)
+    def ascend(self):
+        """Coordinate ascent: slot by slot, by day, it takes the other one of the two whole points around a dual price if the bound by
+        the pooled rows is then higher."""
+        saved = lambda row: sum(self.tried[(*choice, day)] for day, choice in enumerate(row) if choice)
+        rows = [[[cost - saved(row), row] for _, row, cost in pool.rows] for pool in self.pools]
+        for slot in sorted(self.slots, key=lambda slot: (slot[2], slot[0], slot[1])):
+            shift, skill, day = slot
+            now, need = self.tried[slot], self.need(*slot)
+            more = (self.fine[slot] > FRACTIONS * now) - (self.fine[slot] < FRACTIONS * now)
+            covers = lambda row: row[day] == (shift, skill)
+            gain = slot_bound(need, now + more) - slot_bound(need, now)
+            gain += sum(min(cost - more * covers(row) for cost, row in of) - min(cost for cost, _ in of) for of in rows)
             if gain > 0:
-                self.tried[place] += more
-                for it in itertools.chain(*rows):
-                    it[0] -= more * takes(it[1])
+                self.tried[slot] += more
+                for priced_row in itertools.chain(*rows):
+                    priced_row[0] -= more * covers(priced_row[1])
 
-    def move(self, rows, moves):
-        """By these rows, so many moves being made then."""
+    def step(self, rows, steps):
+        """A subgradient step by these rows, after which that many steps are made."""
         covers = collections.Counter((*choice, day) for row in rows for day, choice in enumerate(row) if choice)
-        for it in self.places:
-            need = self.need(*it)
+        for slot in self.slots:
+            need = self.need(*slot)
             if not max(need):
                 continue
-            wanted = max(need) if self.worths[it] <= 30 * PARTS else need.least
-            self.wanted[it] = faded(self.wanted[it], wanted)
-            self.had[it] = faded(self.had[it], covers[it])
-        share = shares(self.wanted, self.had, greatest_step(moves, self.rounds * MOVES))
-        for it in self.places:
-            self.worths[it] = next_worth(self.worths[it], self.wanted[it], self.had[it], share[it])
+            wanted = max(need) if self.fine[slot] <= 30 * FRACTIONS else need.least
+            self.wanted[slot] = decayed(self.wanted[slot], wanted)
+            self.had[slot] = decayed(self.had[slot], covers[slot])
+        by = slot_steps(self.wanted, self.had, step_length(steps, self.rounds * STEPS))
+        for slot in self.slots:
+            self.fine[slot] = next_dual_price(self.fine[slot], self.wanted[slot], self.had[slot], by[slot])
 
-    def go_on(self, rows):
-        """To the next round, from one with these rows. After the first the worths begin again at 15."""
-        for seen, row in zip(self.seen, rows):
+    def extend_row(self, rows):
+        """Goes on to the next round from one that found these rows. After the first round the dual prices begin again at 15."""
+        for pool, row in zip(self.pools, rows):
             self.turn += 1
-            seen.keep(self.turn, row)
+            pool.keep(self.turn, row)
         if self.made == 0:
-            self.set_worths(15)
+            self.set_all(15)
         else:
-            self.move(rows, self.made * MOVES + 1)
-            for more in range(2, MOVES + 1):
-                self.move([it.cheapest(self.worths) for it in self.seen], self.made * MOVES + more)
-        self.tried = {it: points(self.worths[it]) for it in self.places}
+            self.step(rows, self.made * STEPS + 1)
+            for more in range(2, STEPS + 1):
+                self.step([pool.cheapest(self.fine) for pool in self.pools], self.made * STEPS + more)
+        self.tried = {slot: points(self.fine[slot]) for slot in self.slots}
         if is_late(self.made, self.rounds):
-            self.climb()
+            self.ascend()
         self.made += 1
 
 
-def floors(case, roster, rounds, first_week=0):
-    """What each of so many rounds reaches."""
-    moves = Moves(case, rounds)
+def lower_bounds(case, roster, rounds, first_week=0):
+    """The lower bound of each round."""
+    dual_prices = DualPrices(case, rounds)
     for _ in range(rounds):
-        reached, rows = floor(case, roster, moves.in_points(), first_week)
+        reached, rows = lower_bound(case, roster, dual_prices.in_points(), first_week)
         yield reached
-        moves.go_on(rows)
+        dual_prices.extend_row(rows)
 
 
 # ---- what the commands answer: the output and the log
@@ -557,7 +561,7 @@ def solutions(case, roster):
             for day in range(7 * week, 7 * week + 7)
             if row[day]
         ]
-        texts.append("".join(f"{it}\n" for it in ["SOLUTION", f"{week} {case.name}", "", f"ASSIGNMENTS = {len(lines)}", *lines]))
+        texts.append("".join(f"{line}\n" for line in ["SOLUTION", f"{week} {case.name}", "", f"ASSIGNMENTS = {len(lines)}", *lines]))
     return "\n".join(texts)
 
 
@@ -573,14 +577,14 @@ def start_of(case, number):
 
 
 def best(case, roster, number, row):
-    """What 'best' answers where this is the best row."""
+    """What 'best' answers if this is the best row."""
     after = with_row(roster, number, row)
     log = f"{start_of(case, penalty(case, roster))}\nbest {case.nurses[number].name} {penalty(case, after)}\n"
     return solutions(case, after), log
 
 
 def improve(case, roster, rounds, first_week=0):
-    """What 'improve' answers with so many rounds, where the frozen days stay."""
+    """What 'improve' answers with at most that many rounds, which leave the frozen days as they are."""
     total, log = penalty(case, roster), []
     log.append(start_of(case, total))
     changed = True
@@ -595,23 +599,23 @@ def improve(case, roster, rounds, first_week=0):
         if not changed:
             break
     log.append(f"{'stopped' if changed else 'settled'} {total}")
-    return solutions(case, roster), "".join(f"{it}\n" for it in log)
+    return solutions(case, roster), "".join(f"{line}\n" for line in log)
 
 
 def bound(case, roster, rounds, first_week=0):
-    """What 'bound' answers after so many rounds, or as soon as the bound is what the roster costs."""
+    """What 'bound' answers after that many rounds, or as soon as the bound is what the roster costs."""
     best, total = 0, penalty(case, roster)
     log = [start_of(case, total)]
-    for number, reached in enumerate(floors(case, roster, rounds, first_week), 1):
+    for number, reached in enumerate(lower_bounds(case, roster, rounds, first_week), 1):
         if best == total:
             break
         if reached > best:
             best = reached
             log.append(f"round {number} {best}")
-    return f"roster {total}\nbound {best}\n", "".join(f"{it}\n" for it in log)
+    return f"roster {total}\nbound {best}\n", "".join(f"{line}\n" for line in log)
 
 
-# ---- texts of which nothing is refused
+# ---- texts that are accepted
 
 
 class Words:
@@ -622,10 +626,10 @@ class Words:
 
     def next(self, *before):
         """The next word, after these."""
-        for it in before:
+        for expected in before:
             found = self.left.popleft()
-            if found != it:
-                raise ValueError(f"{it} is missing before {found}")
+            if found != expected:
+                raise ValueError(f"{expected} is missing before {found}")
         return self.left.popleft()
 
     def number(self, *before):
@@ -645,9 +649,9 @@ def scenario_of(words):
     name, weeks = words.next("SCENARIO", "="), words.number("WEEKS", "=")
     skills = words.names(words.number("SKILLS", "="))
     shifts = [Shift(words.next(), words.pair()) for _ in range(words.number("SHIFT_TYPES", "="))]
-    place = {shift.name: number for number, shift in enumerate(shifts)}
+    shift_of = {shift.name: number for number, shift in enumerate(shifts)}
     lines = [(words.next(*([] if at else ["FORBIDDEN_SHIFT_TYPES_SUCCESSIONS"])), words.names(words.number())) for at in range(len(shifts))]
-    forbidden = {(place[first], place[second]) for first, others in lines for second in others}
+    forbidden = {(shift_of[first], shift_of[second]) for first, others in lines for second in others}
     of_contract, contracts = {}, []
     for number in range(words.number("CONTRACTS", "=")):
         of_contract[words.next()] = number
@@ -655,7 +659,7 @@ def scenario_of(words):
     nurses = []
     for _ in range(words.number("NURSES", "=")):
         nurse, contract = words.names(2)
-        nurses.append(Nurse(nurse, of_contract[contract], [skills.index(it) for it in words.names(words.number())], None))
+        nurses.append(Nurse(nurse, of_contract[contract], [skills.index(skill) for skill in words.names(words.number())], None))
     return Case(name, weeks, shifts, skills, forbidden, contracts, nurses, {}, set(), set(), set(), set())
 
 

@@ -8,7 +8,7 @@ MOST_CHOICES = 5
 
 
 def limits(rng, most):
-    """Mostly the lesser one first, but a least above its greatest is allowed."""
+    """Limits, mostly with the lesser one first; a least above its greatest is allowed."""
     pair = [rng.randint(0, most), rng.randint(0, most)]
     return Limits(*(pair if rng.random() < 0.15 else sorted(pair)))
 
@@ -27,48 +27,48 @@ def random_row(rng, nurse, weeks, shifts, forbidden):
     row, before = [], nurse.history.last
     likely_off = rng.random()
     for _ in range(7 * weeks):
-        choices = [(it, skill) for it in range(shifts) for skill in nurse.skills if (before, it) not in forbidden]
+        choices = [(shift, skill) for shift in range(shifts) for skill in nurse.skills if (before, shift) not in forbidden]
         row.append(None if not choices or rng.random() < likely_off else rng.choice(choices))
         before = row[-1] and row[-1][0]
     return row
 
 
 def random_needs(rng, case_shifts, skills, roster):
-    """Minimums that the roster meets, some of them just, and optimums around them."""
+    """Minimums that the roster meets, some of them exactly, and optimums around them."""
     needs = {}
     for at in itertools.product(range(case_shifts), range(skills)):
         if rng.random() < 0.8:
             have = [cover(of_day)[at] for of_day in zip(*roster)]
-            least = [rng.choice([0, 0, 0, rng.randint(0, it)]) for it in have]
-            needs[at] = [Limits(it, rng.choice([it, rng.randint(0, 3)])) for it in least]
+            least = [rng.choice([0, 0, 0, rng.randint(0, count)]) for count in have]
+            needs[at] = [Limits(count, rng.choice([count, rng.randint(0, 3)])) for count in least]
     return needs
 
 
 def random_absences(rng, roster):
-    """Days on which nurses are absent, of those on which they are off."""
+    """Days on which nurses are absent, some of those on which they are off."""
     off = [(number, day) for number, row in enumerate(roster) for day, choice in enumerate(row) if choice is None]
     return {*rng.sample(off, min(len(off), rng.choice([0, rng.randint(0, 6)])))}
 
 
 def random_fixed(rng, roster):
-    """Fixed days: none, any few, all of a nurse, or a day and those before for all."""
+    """Fixed days: none, a few, all days of a nurse, or all days of all nurses up to one."""
     days, nurses = range(len(roster[0])), range(len(roster))
     kind = rng.choice(["none", "few", "few", "nurse", "past"])
     if kind == "few":
         return {(rng.choice(nurses), rng.choice(days)) for _ in range(rng.randint(1, 8))}
     number, last = rng.choice(nurses), rng.choice(days)
-    return {(it, day) for it in nurses for day in days if (kind == "nurse" and it == number) or (kind == "past" and day <= last)}
+    return {(nurse, day) for nurse in nurses for day in days if (kind == "nurse" and nurse == number) or (kind == "past" and day <= last)}
 
 
 def random_instance(rng, with_own=True):
-    """A case, and a roster that keeps its hard rules; with absences and fixed days, where sections of our own are wanted."""
+    """A case, and a roster that keeps its hard rules; with absences and fixed days if sections of our own are wanted."""
     weeks, shifts, skills = rng.choice([1, 1, 2]), rng.randint(1, 3), rng.randint(1, 2)
     forbidden = {pair for pair in itertools.product(range(shifts), repeat=2) if rng.random() < 0.2}
     contracts = [
         Contract(limits(rng, 7 * weeks), limits(rng, 6), limits(rng, 6), rng.randint(0, 2), rng.randint(0, 1))
         for _ in range(rng.randint(1, 2))
     ]
-    nurses = [random_nurse(rng, it, shifts, skills, len(contracts)) for it in range(rng.randint(1, 3))]
+    nurses = [random_nurse(rng, number, shifts, skills, len(contracts)) for number in range(rng.randint(1, 3))]
     roster = [random_row(rng, nurse, weeks, shifts, forbidden) for nurse in nurses]
     needs = random_needs(rng, shifts, skills, roster)
     requests, wishes = (
@@ -81,8 +81,8 @@ def random_instance(rng, with_own=True):
     of_shifts = [limits(rng, 5) for _ in range(shifts)]
     absences = random_absences(rng, roster) if with_own else set()
     fixed = random_fixed(rng, roster) if with_own else set()
-    shifts = [Shift(f"S{it}", limits) for it, limits in enumerate(of_shifts)]
-    skills = [f"K{it}" for it in range(skills)]
+    shifts = [Shift(f"S{number}", limits) for number, limits in enumerate(of_shifts)]
+    skills = [f"K{number}" for number in range(skills)]
     return Case("small", weeks, shifts, skills, forbidden, contracts, nurses, needs, requests, wishes, absences, fixed), roster
 
 
@@ -95,21 +95,21 @@ def first_week_of(rng, case):
 
 
 def pairs(*them):
-    return " ".join(f"({it.least},{it.greatest})" for it in them)
+    return " ".join(f"({pair.least},{pair.greatest})" for pair in them)
 
 
 def week_lines(case, week, with_own):
-    """The week data. Where a week has no wishes, no absences, or no fixed days, every other one has no section of them."""
+    """The week data. Of the weeks without wishes every other one has no section of them; and so for absences and fixed days."""
     lines = ["WEEK_DATA", "small", "REQUIREMENTS"]
     lines += [f"S{at[0]} K{at[1]} {pairs(*need[7 * week : 7 * week + 7])}" for at, need in case.needs.items()]
     for keyword, asked in (("SHIFT_OFF_REQUESTS", case.requests), ("SHIFT_ON_REQUESTS", case.wishes)):
-        of_week = sorted((it for it in asked if it[2] // 7 == week), key=str)
+        of_week = sorted((request for request in asked if request[2] // 7 == week), key=str)
         if keyword == "SHIFT_ON_REQUESTS" and not of_week and week % 2 == len(case.requests) % 2:
             continue
         lines += [f"{keyword} = {len(of_week)}"]
         lines += [f"N{number} {'Any' if shift is None else f'S{shift}'} {DAYS[day % 7]}" for number, shift, day in of_week]
     for keyword, days, parity in (("ABSENCES", case.absences, len(case.requests) // 2), ("FIXED", case.fixed, len(case.wishes))):
-        of_week = sorted(it for it in days if it[1] // 7 == week)
+        of_week = sorted(nurse_day for nurse_day in days if nurse_day[1] // 7 == week)
         if with_own and (of_week or week % 2 != parity % 2):
             lines += [f"{keyword} = {len(of_week)}", *(f"N{number} {DAYS[day % 7]}" for number, day in of_week)]
     return lines
@@ -118,20 +118,20 @@ def week_lines(case, week, with_own):
 def text_of(case, roster, with_own=True):
     shift = lambda number, none: none if number is None else f"S{number}"
     lines = ["SCENARIO = small", f"WEEKS = {case.weeks}", f"SKILLS = {len(case.skills)}", *case.skills]
-    lines += [f"SHIFT_TYPES = {len(case.shifts)}", *(f"{it.name} {pairs(it.limits)}" for it in case.shifts)]
+    lines += [f"SHIFT_TYPES = {len(case.shifts)}", *(f"{shift_type.name} {pairs(shift_type.limits)}" for shift_type in case.shifts)]
     lines += ["FORBIDDEN_SHIFT_TYPES_SUCCESSIONS"]
     for number in range(len(case.shifts)):
         after = [f"S{second}" for first, second in sorted(case.forbidden) if first == number]
         lines += [" ".join([f"S{number}", str(len(after)), *after])]
     lines += [f"CONTRACTS = {len(case.contracts)}"]
-    for number, it in enumerate(case.contracts):
-        lines += [f"C{number} {pairs(it.assignments, it.working, it.off)} {it.weekends} {it.whole_weekends}"]
+    for number, contract in enumerate(case.contracts):
+        lines += [f"C{number} {pairs(contract.assignments, contract.working, contract.off)} {contract.weekends} {contract.whole_weekends}"]
     lines += [f"NURSES = {len(case.nurses)}"]
-    for it in case.nurses:
-        lines += [" ".join([it.name, f"C{it.contract}", str(len(it.skills)), *(f"K{skill}" for skill in it.skills)])]
+    for nurse in case.nurses:
+        lines += [" ".join([nurse.name, f"C{nurse.contract}", str(len(nurse.skills)), *(f"K{skill}" for skill in nurse.skills)])]
     lines += ["HISTORY", "0 small", "NURSE_HISTORY"]
-    for it in case.nurses:
-        past = it.history
-        lines += [f"{it.name} {past.assignments} {past.weekends} {shift(past.last, 'None')} {past.of_last} {past.working} {past.off}"]
+    for nurse in case.nurses:
+        past = nurse.history
+        lines += [f"{nurse.name} {past.assignments} {past.weekends} {shift(past.last, 'None')} {past.of_last} {past.working} {past.off}"]
     lines += [line for week in range(case.weeks) for line in week_lines(case, week, with_own)]
     return "".join(f"{line}\n" for line in lines) + solutions(case, roster)

@@ -23,7 +23,7 @@ struct Piece {
 };
 constexpr std::size_t most_kept = 512;
 Piece* kept[most_kept / 16 + 1];
-char *room = nullptr, *room_end = nullptr;
+char *free_bytes = nullptr, *block_end = nullptr;
 }  // namespace
 
 void* operator new(std::size_t size) {
@@ -35,13 +35,13 @@ void* operator new(std::size_t size) {
         first = first->next;
         return piece;
     }
-    if (static_cast<std::size_t>(room_end - room) < rounded) {
+    if (static_cast<std::size_t>(block_end - free_bytes) < rounded) {
         constexpr std::size_t block = 1 << 20;
-        room = static_cast<char*>(std::malloc(block));
-        room_end = room + block;
+        free_bytes = static_cast<char*>(std::malloc(block));
+        block_end = free_bytes + block;
     }
-    char* piece = room;
-    room += rounded;
+    char* piece = free_bytes;
+    free_bytes += rounded;
     return piece;
 }
 void operator delete(void* piece, std::size_t size) noexcept {
@@ -51,17 +51,17 @@ void operator delete(void* piece, std::size_t size) noexcept {
     freed->next = kept[rounded / 16];
     kept[rounded / 16] = freed;
 }
-// (of a size that isn't told: nothing that the search makes)
+// (without a size: nothing that the search makes)
 void operator delete(void*) noexcept {}
 
 namespace {
 
 // ---- labels and their dominance
 
-// Counts with what they cost yet: for the run, the shift's run, the assignments and the weekends, where the run goes on for the fewest
-// days that it can, or as few days or weekends are worked as can be; and where it is the most. Of two labels of a vertex the
-// difference of such a cost is greatest at one of these two ends. So what one label costs later is above what another costs by at most
-// the sum of the greater differences.
+// Counts, and what they can still cost: the run, the shift's run, the assignments and the weekends, each at two ends: if the run goes
+// on for as few days as it can, or as few days or weekends are worked as can be; and if it is as many. For two labels of a vertex the
+// difference of such a cost is greatest at one of these two ends. So one label costs later at most the sum of the greater differences
+// more than another.
 struct Label {
     std::uint32_t vertex;
     std::int32_t cost;
@@ -73,7 +73,7 @@ struct Label {
     bool operator==(const Label& other) const { return vertex == other.vertex && cost == other.cost; }
 };
 
-// For each number of days or weekends that are to come, by count: what it costs yet. By the contract and the shifts alone.
+// What each count can still cost for each number of days or weekends to come. It depends only on the contract and the shifts.
 using Table = std::vector<std::vector<std::int32_t>>;
 
 struct Later {
@@ -81,21 +81,21 @@ struct Later {
     std::vector<Table> ended, open;
     Table working_ended, working_open, assignments, weekends;
 
-    Later(const Case& it, const Contract& rules) {
-        for (int choice = 0; choice <= it.shifts; choice++) {
-            const Pair& limits = choice == 0 ? rules.free : it.runs[choice];
+    Later(const Case& instance, const Contract& rules) {
+        for (int choice = 0; choice <= instance.shifts; choice++) {
+            const Pair& limits = choice == 0 ? rules.free : instance.runs[choice];
             int points = choice == 0 ? free_points : shift_points;
-            ended.push_back(of_runs(it, limits, points, true)), open.push_back(of_runs(it, limits, points, false));
+            ended.push_back(of_runs(instance, limits, points, true)), open.push_back(of_runs(instance, limits, points, false));
         }
-        working_ended = of_runs(it, rules.working, working_points, true);
-        working_open = of_runs(it, rules.working, working_points, false);
+        working_ended = of_runs(instance, rules.working, working_points, true);
+        working_open = of_runs(instance, rules.working, working_points, false);
         const Pair& total = rules.total;
-        for (int more = 0; more <= it.days(); more++) {
+        for (int more = 0; more <= instance.days(); more++) {
             assignments.emplace_back();
             for (int count = 0; count <= total.cap(); count++)
                 assignments.back().push_back(assignment_points * (over(total, count, more) + std::max(0, total.least - count - more)));
         }
-        for (int more = 0; more <= it.weeks; more++) {
+        for (int more = 0; more <= instance.weeks; more++) {
             weekends.emplace_back();
             for (int count = 0; count <= rules.weekends; count++)
                 weekends.back().push_back(weekend_points * over({0, rules.weekends}, count, more));
@@ -106,9 +106,9 @@ struct Later {
         return std::max(0, count + more - limits.greatest) - std::max(0, count - limits.greatest);
     }
 
-    static Table of_runs(const Case& it, const Pair& limits, int points, bool ends) {
+    static Table of_runs(const Case& instance, const Pair& limits, int points, bool ends) {
         Table table;
-        for (int more = 0; more <= it.days(); more++) {
+        for (int more = 0; more <= instance.days(); more++) {
             table.emplace_back();
             for (int run = 0; run <= limits.cap(); run++)
                 table.back().push_back(points * (over(limits, run, more) + (ends ? missing(limits, run + more) : 0)));
@@ -116,7 +116,7 @@ struct Later {
         return table;
     }
 
-    // Of the run of days off, or of work where a shift was last; and of the shift's.
+    // Of the run of days off, or of work if a shift was last; and of the shift's.
     const std::int32_t* of_run(int last, int more, int days_left) const {
         if (last == 0) return (more < days_left ? ended : open)[0][more].data();
         return (more < days_left ? working_ended : working_open)[more].data();
@@ -146,7 +146,7 @@ struct Arc {
 };
 
 struct Search {
-    const Case& it;
+    const Case& instance;
     const Nurse& nurse;
     const Contract& rules;
     const Later& later;
@@ -154,18 +154,18 @@ struct Search {
     std::vector<std::vector<Arc>> arcs;
     int start = 0, target = 0;
 
-    Search(const Case& it, int n, const Later& later, bool by_offers)
-        : it(it), nurse(it.nurses[n]), rules(it.contracts[nurse.contract]), later(later) {
-        int width = it.shifts + 1, days = it.days();
+    Search(const Case& instance, int n, const Later& later, bool by_offers)
+        : instance(instance), nurse(instance.nurses[n]), rules(instance.contracts[nurse.contract]), later(later) {
+        int width = instance.shifts + 1, days = instance.days();
         target = (days + 1) * width, start = nurse.last;
         vertices.resize(target + 1), arcs.resize(target + 1);
         vertices[target].is_alive = true;
         for (int last = 0; last < width; last++) arcs[days * width + last].push_back({target, 0, last, 0, false, true});
         for (int day = 0; day < days; day++) {
-            std::vector<int> prices = prices_of(it, n, day);
+            std::vector<int> prices = prices_of(instance, n, day);
             for (int last = 0; last < width; last++)
                 for (int choice = 0; choice < width; choice++)
-                    if (prices[choice] >= 0 && !it.forbidden[last][choice])
+                    if (prices[choice] >= 0 && !instance.forbidden[last][choice])
                         arcs[day * width + last].push_back({(day + 1) * width + choice, choice, last,
                                                             prices[choice] + split_cost(rules, day, last, choice),
                                                             is_weekend_more(day, last, choice), false});
@@ -177,13 +177,13 @@ struct Search {
                 // (whatever is offered)
                 Vertex& here = vertices[v];
                 here.run = here.shift_run = here.work = {0, here.days_left};
-                here.weekends = {0, std::min(it.weeks, here.days_left / 7 + 1)};
+                here.weekends = {0, std::min(instance.weeks, here.days_left / 7 + 1)};
             }
             find_later(vertices[v]);
         }
     }
 
-    // What the days from a vertex on may be, by what is offered on them, where that leads to the end.
+    // What the days from a vertex on may be, by the offers on them that lead to the end.
     void look_ahead(int v) {
         auto& out = arcs[v];
         out.erase(std::remove_if(out.begin(), out.end(), [&](const Arc& arc) { return !vertices[arc.to].is_alive; }), out.end());
@@ -227,9 +227,9 @@ struct Search {
     }
 
     Label first() const {
-        State state = start_of(it, nurse);
+        State state = start_of(instance, nurse);
         Label label{};
-        label.vertex = start, label.cost = start_cost(it, nurse);
+        label.vertex = start, label.cost = start_cost(instance, nurse);
         label.run = state.run, label.shift_run = state.shift_run;
         label.assignments = state.assignments, label.weekends = state.weekends;
         set_later(label);
@@ -245,7 +245,7 @@ struct Search {
             return;
         }
         State at{arc.last, label.run, label.shift_run, label.assignments, label.weekends};
-        label.cost += arc.fixed + go_on(it, rules, arc.last, arc.choice, arc.weekend, at);
+        label.cost += arc.fixed + go_on(instance, rules, arc.last, arc.choice, arc.weekend, at);
         label.run = at.run, label.shift_run = at.shift_run, label.assignments = at.assignments, label.weekends = at.weekends;
         set_later(label);
     }
@@ -259,8 +259,8 @@ inline bool dominates_apart(const Label& one, const Label& other) {
     return worse <= 0;
 }
 
-// The two runs together: a shift's run goes on for no more days than that of work. Where one has worked fewer days and more of this
-// shift, the first counts most where work ends soon, the second where the shift goes on for long.
+// The two runs together: a shift's run goes on for no more days than that of work. If one label has worked fewer days and more of this
+// shift, the first counts most if work ends soon, and the second if the shift goes on for long.
 inline bool dominates_joined(const Search& search, const Label& one, const Label& other) {
     std::int32_t rest = one.cost - other.cost, ends[4];
     for (int which = 0; which < 4; which++)
@@ -270,7 +270,7 @@ inline bool dominates_joined(const Search& search, const Label& one, const Label
     if (rest > 0 || one.run >= other.run || one.shift_run <= other.shift_run) return false;
     const Vertex& here = search.vertices[one.vertex];
     // (a run of more days than the greatest cap differs no more)
-    int longest = std::min(here.shift_run.most, std::max(search.rules.working.cap(), search.it.runs[here.last].cap()) + 1);
+    int longest = std::min(here.shift_run.most, std::max(search.rules.working.cap(), search.instance.runs[here.last].cap()) + 1);
     for (int days = here.shift_run.fewest; days <= longest; days++) {
         const std::int32_t* run = search.later.of_run(here.last, std::max(days, here.run.fewest), here.days_left);
         const std::int32_t* shift_run = search.later.of_shift_run(here.last, days, here.days_left);
@@ -326,7 +326,7 @@ int by_boost(const Search& search, const Graph& graph) {
 // A list for each vertex, in the order of the days, of labels that no other of the list dominates, each with the one that it came from.
 struct Listed {
     Label label;
-    std::uint32_t vertex, place;
+    std::uint32_t vertex, index;
 };
 using Lists = std::vector<std::vector<Listed>>;
 
@@ -342,16 +342,16 @@ int by_lists(const Search& search, Lists& lists) {
                 search.extend(more.label, arc);
                 made++;
                 bool is_dominated = false;
-                for (std::size_t place = 0; place < there.size() && !is_dominated;) {
-                    if (dominates_apart(there[place].label, more.label)) {
+                for (std::size_t index = 0; index < there.size() && !is_dominated;) {
+                    if (dominates_apart(there[index].label, more.label)) {
                         is_dominated = true;
                         // (one that dominates goes to the front, where the next is compared with it earlier)
-                        std::swap(there[place], there[place / 2]);
-                    } else if (dominates_apart(more.label, there[place].label)) {
-                        there[place] = there.back();
+                        std::swap(there[index], there[index / 2]);
+                    } else if (dominates_apart(more.label, there[index].label)) {
+                        there[index] = there.back();
                         there.pop_back();
                     } else {
-                        place++;
+                        index++;
                     }
                 }
                 if (!is_dominated) there.push_back(more);
@@ -362,7 +362,7 @@ int by_lists(const Search& search, Lists& lists) {
 }
 
 // One list for each day, in the order of the rows that the labels begin, so that the first of the least rows is found: a later label
-// leaves out an earlier one only where every row from it on costs less. Labels are compared where their runs are equal, so that only
+// prunes an earlier one only if every row from it on costs less. Labels are compared if their runs are equal, so that only
 // assignments and weekends can cost more later. Those of equal runs are linked, the last one first.
 struct Ordered {
     Label label;
@@ -386,14 +386,14 @@ class OrderedLists {
 
     // Puts a label at the end of the list, if none of those that are linked costs at most as much.
     bool put(const Label& more, int& linked) {
-        for (int place = linked, last = -1; place >= 0; place = there[place].next) {
-            Ordered& other = there[place];
+        for (int index = linked, last = -1; index >= 0; index = there[index].next) {
+            Ordered& other = there[index];
             if (most_above(other.label, more) <= 0) return false;
             if (most_above(more, other.label) < 0) {
                 other.is_left_out = true;
                 (last < 0 ? linked : there[last].next) = other.next;
             } else {
-                last = place;
+                last = index;
             }
         }
         there.push_back({more, linked, false});
@@ -403,10 +403,10 @@ class OrderedLists {
 
   public:
     int search(const Search& search) {
-        const int days = search.it.days(), runs = std::max(search.rules.working.cap(), search.rules.free.cap()) + 1;
+        const int days = search.instance.days(), runs = std::max(search.rules.working.cap(), search.rules.free.cap()) + 1;
         int shift_runs = 1;
-        for (const Pair& limits : search.it.runs) shift_runs = std::max(shift_runs, limits.cap() + 1);
-        first.assign(std::size_t(search.it.shifts + 1) * runs * shift_runs, -1);
+        for (const Pair& limits : search.instance.runs) shift_runs = std::max(shift_runs, limits.cap() + 1);
+        first.assign(std::size_t(search.instance.shifts + 1) * runs * shift_runs, -1);
         before.resize(days);
         here.assign(1, {search.first(), -1, false});
         for (int day = 0; day < days; day++) {
@@ -427,8 +427,8 @@ class OrderedLists {
             std::swap(here, there);
         }
         int least = INT32_MAX;
-        for (const Ordered& it : here)
-            if (!it.is_left_out) least = std::min(least, it.label.cost + end_cost(search.rules, it.label.assignments));
+        for (const Ordered& ordered : here)
+            if (!ordered.is_left_out) least = std::min(least, ordered.label.cost + end_cost(search.rules, ordered.label.assignments));
         return least;
     }
 };
@@ -458,21 +458,21 @@ int main(int count, char** words) {
         std::cerr << "label-setting BUNDLE TIMES: " << ways << '\n';
         return 2;
     }
-    const Case it = read_case(words[1]);
+    const Case instance = read_case(words[1]);
     const int times = std::stoi(words[2]);
     std::vector<int> costs;
     std::vector<Later> later;
-    for (const Contract& rules : it.contracts) later.emplace_back(it, rules);
+    for (const Contract& rules : instance.contracts) later.emplace_back(instance, rules);
     long all = 0;
-    for (std::size_t n = 0; n < it.nurses.size(); n++) costs.push_back(row_cost(it, n)), all += costs.back();
+    for (std::size_t n = 0; n < instance.nurses.size(); n++) costs.push_back(row_cost(instance, n)), all += costs.back();
     Lists lists;
     OrderedLists ordered;
-    for (std::size_t n = 0; n < it.nurses.size(); n++) {
-        const Later& costs_later = later[it.nurses[n].contract];
-        const Search apart(it, n, costs_later, false), search(it, n, costs_later, true);
+    for (std::size_t n = 0; n < instance.nurses.size(); n++) {
+        const Later& costs_later = later[instance.nurses[n].contract];
+        const Search apart(instance, n, costs_later, false), search(instance, n, costs_later, true);
         const Graph apart_graph = graph_of(apart), graph = graph_of(search);
         int cost = by_boost<true>(search, graph);
-        std::cout << it.nurses[n].name << ' ' << all - costs[n] + cost;
+        std::cout << instance.nurses[n].name << ' ' << all - costs[n] + cost;
         measure(times, cost, [&] { return by_boost<false>(apart, apart_graph); });
         measure(times, cost, [&] { return by_boost<false>(search, graph); });
         measure(times, cost, [&] { return by_boost<true>(search, graph); });

@@ -1,4 +1,4 @@
-// The texts and the rules, as the programs beside this file read and count them; by hand, and apart from the proved ones.
+// The texts and the rules, as label-setting.cpp reads and counts them; written by hand, apart from the proved ones.
 #pragma once
 #include <algorithm>
 #include <fstream>
@@ -48,7 +48,7 @@ struct Case {
     std::vector<std::vector<std::vector<int>>> requests;  // by nurse, day, choice: the points for requests that it doesn't meet
     std::vector<std::vector<Cell>> rows;        // by nurse, day
     int days() const { return 7 * weeks; }
-    int need_place(int choice, int skill) const { return (choice - 1) * skills + skill; }
+    int slot_of(int choice, int skill) const { return (choice - 1) * skills + skill; }
 };
 
 class Reader {
@@ -90,37 +90,37 @@ int weekday(const std::string& word) {
 
 Case read_case(const std::string& path) {
     Reader text(path);
-    Case it;
+    Case instance;
     Names skills, shifts, contracts, nurses;
     text.expect("SCENARIO"), text.word();
-    text.expect("WEEKS"), it.weeks = text.number();
-    text.expect("SKILLS"), it.skills = text.number();
-    for (int n = 0; n < it.skills; n++) skills[text.word()] = n;
-    text.expect("SHIFT_TYPES"), it.shifts = text.number();
-    it.runs.resize(it.shifts + 1);
-    for (int n = 1; n <= it.shifts; n++) shifts[text.word()] = n, it.runs[n] = text.pair();
-    it.forbidden.assign(it.shifts + 1, std::vector<char>(it.shifts + 1, 0));
+    text.expect("WEEKS"), instance.weeks = text.number();
+    text.expect("SKILLS"), instance.skills = text.number();
+    for (int n = 0; n < instance.skills; n++) skills[text.word()] = n;
+    text.expect("SHIFT_TYPES"), instance.shifts = text.number();
+    instance.runs.resize(instance.shifts + 1);
+    for (int n = 1; n <= instance.shifts; n++) shifts[text.word()] = n, instance.runs[n] = text.pair();
+    instance.forbidden.assign(instance.shifts + 1, std::vector<char>(instance.shifts + 1, 0));
     text.expect("FORBIDDEN_SHIFT_TYPES_SUCCESSIONS");
     while (text.peek() != "CONTRACTS") {
         int before = shifts.at(text.word());
-        for (int more = text.number(); more > 0; more--) it.forbidden[before][shifts.at(text.word())] = 1;
+        for (int more = text.number(); more > 0; more--) instance.forbidden[before][shifts.at(text.word())] = 1;
     }
-    text.expect("CONTRACTS"), it.contracts.resize(text.number());
-    for (std::size_t n = 0; n < it.contracts.size(); n++) {
+    text.expect("CONTRACTS"), instance.contracts.resize(text.number());
+    for (std::size_t n = 0; n < instance.contracts.size(); n++) {
         contracts[text.word()] = n;
-        Contract& rules = it.contracts[n];
+        Contract& rules = instance.contracts[n];
         rules.total = text.pair(), rules.working = text.pair(), rules.free = text.pair();
         rules.weekends = text.number(), rules.is_whole = text.number() == 1;
     }
-    text.expect("NURSES"), it.nurses.resize(text.number());
-    for (std::size_t n = 0; n < it.nurses.size(); n++) {
-        Nurse& nurse = it.nurses[n];
+    text.expect("NURSES"), instance.nurses.resize(text.number());
+    for (std::size_t n = 0; n < instance.nurses.size(); n++) {
+        Nurse& nurse = instance.nurses[n];
         nurse.name = text.word(), nurses[nurse.name] = n, nurse.contract = contracts.at(text.word());
         for (int more = text.number(); more > 0; more--) nurse.skills.push_back(skills.at(text.word()));
     }
     text.expect("HISTORY"), text.number(), text.word(), text.expect("NURSE_HISTORY");
-    for (std::size_t n = 0; n < it.nurses.size(); n++) {
-        Nurse& nurse = it.nurses[nurses.at(text.word())];
+    for (std::size_t n = 0; n < instance.nurses.size(); n++) {
+        Nurse& nurse = instance.nurses[nurses.at(text.word())];
         nurse.assignments = text.number(), nurse.weekends = text.number();
         std::string last = text.word();
         int shift_run = text.number(), working = text.number(), free = text.number();
@@ -129,13 +129,13 @@ Case read_case(const std::string& path) {
         else
             nurse.last = shifts.at(last), nurse.shift_run = shift_run, nurse.working = working;
     }
-    it.needs.assign(it.days(), std::vector<Pair>(it.shifts * it.skills));
-    it.requests.assign(it.nurses.size(), std::vector<std::vector<int>>(it.days(), std::vector<int>(it.shifts + 1, 0)));
-    for (int week = 0; week < it.weeks; week++) {
+    instance.needs.assign(instance.days(), std::vector<Pair>(instance.shifts * instance.skills));
+    instance.requests.assign(instance.nurses.size(), std::vector<std::vector<int>>(instance.days(), std::vector<int>(instance.shifts + 1, 0)));
+    for (int week = 0; week < instance.weeks; week++) {
         text.expect("WEEK_DATA"), text.word(), text.expect("REQUIREMENTS");
         while (text.peek() != "SHIFT_OFF_REQUESTS") {
             int shift = shifts.at(text.word()), skill = skills.at(text.word());
-            for (int day = 0; day < 7; day++) it.needs[7 * week + day][it.need_place(shift, skill)] = text.pair();
+            for (int day = 0; day < 7; day++) instance.needs[7 * week + day][instance.slot_of(shift, skill)] = text.pair();
         }
         // Each section counts once for a nurse and day, however many of its lines are against a choice.
         auto read_requests = [&](auto is_against) {
@@ -144,26 +144,26 @@ Case read_case(const std::string& path) {
                 int nurse = nurses.at(text.word());
                 std::string shift = text.word();
                 auto& found = against[{nurse, 7 * week + weekday(text.word())}];
-                found.resize(it.shifts + 1);
-                for (int choice = 0; choice <= it.shifts; choice++)
+                found.resize(instance.shifts + 1);
+                for (int choice = 0; choice <= instance.shifts; choice++)
                     if (is_against(choice != 0 && (shift == "Any" || shifts.at(shift) == choice))) found[choice] = 1;
             }
             for (const auto& [at, found] : against)
-                for (int choice = 0; choice <= it.shifts; choice++) it.requests[at.first][at.second][choice] += request_points * found[choice];
+                for (int choice = 0; choice <= instance.shifts; choice++) instance.requests[at.first][at.second][choice] += request_points * found[choice];
         };
         text.expect("SHIFT_OFF_REQUESTS"), read_requests([](bool is_named) { return is_named; });
         if (text.peek() == "SHIFT_ON_REQUESTS") text.word(), read_requests([](bool is_named) { return !is_named; });
     }
-    it.rows.assign(it.nurses.size(), std::vector<Cell>(it.days()));
-    for (int week = 0; week < it.weeks; week++) {
+    instance.rows.assign(instance.nurses.size(), std::vector<Cell>(instance.days()));
+    for (int week = 0; week < instance.weeks; week++) {
         text.expect("SOLUTION"), text.number(), text.word(), text.expect("ASSIGNMENTS");
         for (int more = text.number(); more > 0; more--) {
             int nurse = nurses.at(text.word()), day = 7 * week + weekday(text.word());
             int shift = shifts.at(text.word());
-            it.rows[nurse][day] = {shift, skills.at(text.word())};
+            instance.rows[nurse][day] = {shift, skills.at(text.word())};
         }
     }
-    return it;
+    return instance;
 }
 
 // ---- the rules, from day to day
@@ -172,18 +172,18 @@ struct State {
     int last, run, shift_run, assignments, weekends;
 };
 
-State start_of(const Case& it, const Nurse& nurse) {
-    const Contract& rules = it.contracts[nurse.contract];
+State start_of(const Case& instance, const Nurse& nurse) {
+    const Contract& rules = instance.contracts[nurse.contract];
     State state{nurse.last, 0, 0, 0, 0};
     state.run = nurse.last ? std::min(nurse.working, rules.working.cap()) : std::min(nurse.free, rules.free.cap());
-    state.shift_run = nurse.last ? std::min(nurse.shift_run, it.runs[nurse.last].cap()) : 0;
+    state.shift_run = nurse.last ? std::min(nurse.shift_run, instance.runs[nurse.last].cap()) : 0;
     state.assignments = std::min(nurse.assignments, rules.total.cap());
     state.weekends = std::min(nurse.weekends, rules.weekends);
     return state;
 }
 
-int start_cost(const Case& it, const Nurse& nurse) {
-    const Contract& rules = it.contracts[nurse.contract];
+int start_cost(const Case& instance, const Nurse& nurse) {
+    const Contract& rules = instance.contracts[nurse.contract];
     return assignment_points * std::max(0, nurse.assignments - rules.total.greatest) +
            weekend_points * std::max(0, nurse.weekends - rules.weekends);
 }
@@ -201,7 +201,7 @@ int extra(const Pair& limits, int run) { return run >= limits.greatest ? 1 : 0; 
 
 // What a day costs in runs, in assignments and in weekends above the greatest, without split weekends; the counts go on.
 template <class Counts>
-inline int go_on(const Case& it, const Contract& rules, int last, int choice, bool weekend, Counts& at) {
+inline int go_on(const Case& instance, const Contract& rules, int last, int choice, bool weekend, Counts& at) {
     int cost = 0;
     if (choice != 0) {
         int run = last != 0 ? at.run : 0;
@@ -209,9 +209,9 @@ inline int go_on(const Case& it, const Contract& rules, int last, int choice, bo
         cost += working_points * extra(rules.working, run);
         at.run = std::min(run + 1, rules.working.cap());
         int shift_run = last == choice ? at.shift_run : 0;
-        if (last != 0 && last != choice) cost += shift_points * missing(it.runs[last], at.shift_run);
-        cost += shift_points * extra(it.runs[choice], shift_run);
-        at.shift_run = std::min(shift_run + 1, it.runs[choice].cap());
+        if (last != 0 && last != choice) cost += shift_points * missing(instance.runs[last], at.shift_run);
+        cost += shift_points * extra(instance.runs[choice], shift_run);
+        at.shift_run = std::min(shift_run + 1, instance.runs[choice].cap());
         cost += assignment_points * extra(rules.total, at.assignments);
         at.assignments = std::min(at.assignments + 1, rules.total.cap());
         if (weekend) {
@@ -223,7 +223,7 @@ inline int go_on(const Case& it, const Contract& rules, int last, int choice, bo
     int run = last == 0 ? at.run : 0;
     if (last != 0) {
         cost += working_points * missing(rules.working, at.run);
-        cost += shift_points * missing(it.runs[last], at.shift_run);
+        cost += shift_points * missing(instance.runs[last], at.shift_run);
     }
     cost += free_points * extra(rules.free, run);
     at.run = std::min(run + 1, rules.free.cap());
@@ -236,41 +236,41 @@ int end_cost(const Contract& rules, int assignments) {
 }
 
 // What a nurse's row costs, without staffing.
-int row_cost(const Case& it, int n) {
-    const Nurse& nurse = it.nurses[n];
-    const Contract& rules = it.contracts[nurse.contract];
-    State state = start_of(it, nurse);
-    int cost = start_cost(it, nurse), last = state.last;
-    for (int day = 0; day < it.days(); day++) {
-        int choice = it.rows[n][day].choice;
+int row_cost(const Case& instance, int n) {
+    const Nurse& nurse = instance.nurses[n];
+    const Contract& rules = instance.contracts[nurse.contract];
+    State state = start_of(instance, nurse);
+    int cost = start_cost(instance, nurse), last = state.last;
+    for (int day = 0; day < instance.days(); day++) {
+        int choice = instance.rows[n][day].choice;
         cost += split_cost(rules, day, last, choice);
-        cost += go_on(it, rules, last, choice, is_weekend_more(day, last, choice), state);
-        cost += it.requests[n][day][choice];
+        cost += go_on(instance, rules, last, choice, is_weekend_more(day, last, choice), state);
+        cost += instance.requests[n][day][choice];
         last = choice;
     }
     return cost + end_cost(rules, state.assignments);
 }
 
-// For each choice of a day what it costs at least, by the cheapest skill; -1 where it isn't offered.
-std::vector<int> prices_of(const Case& it, int n, int day) {
-    std::vector<int> cover(it.shifts * it.skills, 0);
-    for (std::size_t other = 0; other < it.nurses.size(); other++) {
-        const Cell& cell = it.rows[other][day];
-        if (static_cast<int>(other) != n && cell.choice != 0) cover[it.need_place(cell.choice, cell.skill)]++;
+// For each choice of a day what it costs at least, by the cheapest skill; -1 if it isn't offered.
+std::vector<int> prices_of(const Case& instance, int n, int day) {
+    std::vector<int> cover(instance.shifts * instance.skills, 0);
+    for (std::size_t other = 0; other < instance.nurses.size(); other++) {
+        const Cell& cell = instance.rows[other][day];
+        if (static_cast<int>(other) != n && cell.choice != 0) cover[instance.slot_of(cell.choice, cell.skill)]++;
     }
-    std::vector<int> prices(it.shifts + 1, -1);
+    std::vector<int> prices(instance.shifts + 1, -1);
     auto offer = [&](int choice, int skill) {
-        int place = choice == 0 ? -1 : it.need_place(choice, skill), price = it.requests[n][day][choice];
-        for (int p = 0; p < it.shifts * it.skills; p++) {
-            int have = cover[p] + (p == place);
-            if (have < it.needs[day][p].least) return;
-            price += lacking_points * std::max(0, it.needs[day][p].greatest - have);
+        int slot = choice == 0 ? -1 : instance.slot_of(choice, skill), price = instance.requests[n][day][choice];
+        for (int p = 0; p < instance.shifts * instance.skills; p++) {
+            int have = cover[p] + (p == slot);
+            if (have < instance.needs[day][p].least) return;
+            price += lacking_points * std::max(0, instance.needs[day][p].greatest - have);
         }
         if (prices[choice] < 0 || price < prices[choice]) prices[choice] = price;
     };
     offer(0, 0);
-    for (int choice = 1; choice <= it.shifts; choice++)
-        for (int skill : it.nurses[n].skills) offer(choice, skill);
+    for (int choice = 1; choice <= instance.shifts; choice++)
+        for (int skill : instance.nurses[n].skills) offer(choice, skill);
     return prices;
 }
 
