@@ -12,7 +12,7 @@ BETWEEN = """
     Block::last_number Block::with_weekends
     Block::state Ranges::last Ranges::run Ranges::shift_run Ranges::assignments Ranges::weekends Ranges::blocks
     State::last_number State::run State::shift_run State::assignments State::weekends Workspace::offers
-    Workspace::clear_offers Workspace::push_offers Workspace::search_offers LastSearches::has_search LastSearches::most_gain
+    Workspace::search_offers LastSearches::has_search LastSearches::most_gain
     LastSearches::remember RowSpace count_rows follow_cover raise_uncovered price_slots take_row put_row price_of
     has_uncovered_slot offer_days rows_exist Base::of improve_dual_prices refuse
 """

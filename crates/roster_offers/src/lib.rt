@@ -13,12 +13,14 @@
 //!
 //! `Offering` decides which choices are offered at which prices; `offers_of_choices` and `offers_by_shift`
 //! give all that it offers on a day, and for each shift the first of the cheapest (`offers_open`,
-//! `cheapest_by_shift`). `request_cost` is what a nurse's own requests cost on a day, which belongs to an
-//! offer's price.
+//! `cheapest_by_shift`). `OffersDays` gives what a nurse is offered on any day, and `put_offers` puts the
+//! offers of all days of a case into a workspace. `request_cost` is what a nurse's own requests cost on a
+//! day, which belongs to an offer's price.
 #![tactic(auto)]
 
 mod by_shift;
 mod day;
+mod days;
 mod laws;
 mod lists;
 mod offer;
@@ -27,6 +29,7 @@ mod workspace;
 
 pub use by_shift::cheapest_by_shift;
 pub use day::{NurseDay, Offering, offers_by_shift, offers_of_choices};
+pub use days::{OffersDays, put_offers};
 pub use laws::{
     best_row_is_found_by_states, cheapest_offered_row_is_found, cheapest_row_is_found_by_states,
     cost_rises_with_prices, offers_are_few, one_offer_for_each_shift_is_enough,

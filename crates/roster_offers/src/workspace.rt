@@ -195,14 +195,14 @@ impl<T: SearchesRows> Workspace<T> {
     }
 
     /// Takes out the offers that were put in.
-    pub fn clear_offers(&mut self)
+    pub(crate) fn clear_offers(&mut self)
         ensures { self.new ≡ record self.old { offers = [] } }
     {
         self.offers.clear();
     }
 
     /// Puts in a day's offers, after those of the days before it.
-    pub fn push_offers(&mut self, offers: ArrayVec<Offer, MOST_OFFERS>)
+    pub(crate) fn push_offers(&mut self, offers: ArrayVec<Offer, MOST_OFFERS>)
         requires { length self.old.offers < most_days }
         ensures { self.new ≡ record self.old { offers = self.old.offers ++ offers ∷ [] } }
     {

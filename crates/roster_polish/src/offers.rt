@@ -12,7 +12,8 @@ use arrayvec::ArrayVec;
 use roster_case::Held;
 use roster_instance::{Case, Choice};
 use roster_offers::{
-    MOST_CHOICES, MOST_OFFERS, Offer, SearchesRows, Workspace, cheapest_by_shift, request_cost,
+    MOST_CHOICES, MOST_OFFERS, Offer, OffersDays, SearchesRows, Workspace, cheapest_by_shift,
+    put_offers, request_cost,
 };
 use roster_row::choices;
 use roster_slots::{DualPrices, MOST_DUAL_PRICE};
@@ -109,10 +110,28 @@ pub(crate) fn offer_days<T: SearchesRows>(
         workspace.new.offers }
     ensures fits { fits_space held.now.case workspace.new ≡ true }
 {
-    held.case().keeps_limits();
-    workspace.clear_offers();
-    for day in 0..held.case().days() {
-        workspace.push_offers(offers_of_day(held, nurse, day, kick));
+    put_offers(held.case(), nurse, &Kicked { held, kick }, workspace)
+}
+
+/// Offers on each day what a kick offers of a held roster, one offer for each shift.
+#[derive(Clone, Copy)]
+struct Kicked<'a> {
+    held: &'a Held,
+    kick: &'a Kick<'a>,
+}
+
+impl OffersDays for Kicked<'_> {
+    ghost use Rattle.std.specs.Prelude.{◌<◌};
+    ghost use Rattle.roster_instance.specs.Meaning.{day_count, nurse_count};
+    ghost use Rattle.roster_polish.specs.Kicks.{FitsKick, kick_offers};
+
+    ghost Serves = { λ o n d. (n < nurse_count o.held.now.case) × (d < day_count o.held.now.case)
+        × FitsKick o.held.now.case o.kick.now };
+
+    ghost offers = { λ o n d. kick_offers o.held.now.case o.held.now.roster n o.kick.now d };
+
+    fn offers_of_day(&self, nurse: usize, day: u16) -> ArrayVec<Offer, MOST_OFFERS> {
+        offers_of_day(self.held, nurse, day, self.kick)
     }
 }
 

@@ -8,7 +8,7 @@ ghost use Rattle.roster_laws.specs.Greatest.{extension_count, greatest_extension
 ghost use Rattle.roster_offers.specs.Workspaces.{fits_space};
 ghost use Rattle.roster_slots.specs.ColumnPool.{FitsPool};
 ghost use Rattle.roster_slots.specs.Tables.{slot_prices};
-ghost use Rattle.roster_prices.specs.Days.{ArePricedOffers, AreDualPricedOffers, shift_offers};
+ghost use Rattle.roster_prices.specs.Days.{ArePricedOffers, AreDualPricedOffers};
 ghost use Rattle.roster_prices.specs.Nodes.{most_row_bound, price_in, row_bound_in};
 ghost use Rattle.roster_prices.specs.Workspaces.{CountsRound, FitsRows};
 ghost use Rattle.roster_prices.specs.LowerBounds.{least_row};
@@ -17,7 +17,9 @@ use crate::decisions::Decision;
 use crate::offers::{DayTerms, Terms};
 use crate::workspace::RowSpace;
 use arrayvec::ArrayVec;
-use roster_offers::{MOST_OFFERS, NurseDay, Offer, SearchesRows, Workspace, offers_by_shift};
+use roster_offers::{
+    MOST_OFFERS, NurseDay, Offer, OffersDays, SearchesRows, Workspace, offers_by_shift, put_offers,
+};
 use roster_rules::is_frozen;
 use roster_slots::{ColumnPool, count_row};
 use roster_state::{Meter, start};
@@ -113,32 +115,39 @@ fn offer_days_in<T: SearchesRows>(
         workspace.new.offers }
     ensures fits { fits_space terms.now.case.now workspace.new ≡ true }
 {
-    terms.case.keeps_limits();
-    workspace.clear_offers();
-    for day in 0..terms.case.days() {
-        workspace.push_offers(offers_of_day(terms, node, nurse, day));
-    }
+    put_offers(terms.case, nurse, &NodeTerms { terms, node }, workspace)
 }
 
-/// The offers of one day in a node.
-fn offers_of_day(
-    terms: &Terms<'_>,
-    node: &[Decision],
-    nurse: usize,
-    day: u16,
-) -> ArrayVec<Offer, MOST_OFFERS>
-    requires nurse { nurse < nurse_count terms.now.case.now }
-    requires day { day < day_count terms.now.case.now }
-    ensures offers { result.items ≡ shift_offers terms.now.case.now terms.now.from
-        terms.now.given.now (price_in terms.now.case.now (slot_prices terms.now.dual_prices.now)
-        node.now nurse) nurse day }
-{
-    let case = terms.case;
-    let frozen = is_frozen(case, terms.from, nurse, day);
-    let by = DayTerms {
-        terms,
-        node,
-        frozen,
-    };
-    offers_by_shift(&NurseDay { case, nurse, day }, &by)
+/// Offers on each day what a node offers by dual prices, one offer for each shift.
+#[derive(Clone, Copy)]
+struct NodeTerms<'a> {
+    terms: &'a Terms<'a>,
+    node: &'a [Decision],
+}
+
+impl OffersDays for NodeTerms<'_> {
+    ghost use Rattle.std.specs.Prelude.{◌<◌};
+    ghost use Rattle.roster_instance.specs.Meaning.{day_count, nurse_count};
+    ghost use Rattle.roster_slots.specs.Tables.{slot_prices};
+    ghost use Rattle.roster_prices.specs.Days.{shift_offers};
+    ghost use Rattle.roster_prices.specs.Nodes.{price_in};
+
+    ghost Serves = { λ o n d. (n < nurse_count o.terms.now.case.now)
+        × (d < day_count o.terms.now.case.now) };
+
+    ghost offers = { λ o n d. shift_offers o.terms.now.case.now o.terms.now.from
+        o.terms.now.given.now (price_in o.terms.now.case.now
+        (slot_prices o.terms.now.dual_prices.now) o.node.now n) n d };
+
+    fn offers_of_day(&self, nurse: usize, day: u16) -> ArrayVec<Offer, MOST_OFFERS> {
+        let (terms, node) = (self.terms, self.node);
+        let case = terms.case;
+        let frozen = is_frozen(case, terms.from, nurse, day);
+        let by = DayTerms {
+            terms,
+            node,
+            frozen,
+        };
+        offers_by_shift(&NurseDay { case, nurse, day }, &by)
+    }
 }

@@ -16,8 +16,9 @@ ghost use Rattle.roster_row.specs.Searches.{AreOffersOf, AreShiftOffers};
 
 use crate::last::LastSearches;
 use crate::offer::choices_by_shift;
+use arrayvec::ArrayVec;
 use roster_case::Held;
-use roster_offers::{SearchesRows, Workspace};
+use roster_offers::{MOST_OFFERS, Offer, OffersDays, SearchesRows, Workspace, put_offers};
 use roster_state::{Meter, start};
 
 /// What the search for a nurse's best row returns besides the row.
@@ -151,10 +152,26 @@ fn offers_of_days<T: SearchesRows>(
     ensures same_capacity { SameCapacity workspace.old workspace.new }
     ensures fits { fits_space held.now.case workspace.new ≡ true }
 {
-    let case = held.case();
-    case.keeps_limits();
-    workspace.clear_offers();
-    for day in 0..case.days() {
-        workspace.push_offers(choices_by_shift(held, nurse, day, from));
+    put_offers(held.case(), nurse, &NextToOthers { held, from }, workspace)
+}
+
+/// Offers on each day what a nurse may do while the others' rows stay, one offer for each shift.
+#[derive(Clone, Copy)]
+struct NextToOthers<'a> {
+    held: &'a Held,
+    from: u16,
+}
+
+impl OffersDays for NextToOthers<'_> {
+    ghost use Rattle.std.specs.Prelude.{◌<◌};
+    ghost use Rattle.roster_instance.specs.Meaning.{day_count, nurse_count};
+    ghost use Rattle.roster_offers.specs.Offers.{shift_offers};
+
+    ghost Serves = { λ o n d. (n < nurse_count o.held.now.case) × (d < day_count o.held.now.case) };
+
+    ghost offers = { λ o n d. shift_offers o.held.now.case o.from o.held.now.roster n d };
+
+    fn offers_of_day(&self, nurse: usize, day: u16) -> ArrayVec<Offer, MOST_OFFERS> {
+        choices_by_shift(self.held, nurse, day, self.from)
     }
 }

@@ -9,14 +9,15 @@ ghost use Rattle.roster_rules.specs.AllowedRows.{is_frozen};
 ghost use Rattle.roster_rules.specs.Penalties.{request_cost_on};
 ghost use Rattle.roster_rules.specs.Weights.{most_request};
 ghost use Rattle.roster_offers.specs.Workspaces.{SameCapacity, fits_space};
-ghost use Rattle.roster_who.specs.Offers.{AreTakingOffers, fills, gain_at, gain_of, is_needed, keeps_slots, most_gain, offer_if_filling, shift_taking_offers};
+ghost use Rattle.roster_who.specs.Offers.{AreTakingOffers, fills, gain_at, gain_of, is_needed, keeps_slots, most_gain, offer_if_filling};
 
 use crate::asked::{Asking, is_asked};
 use arrayvec::ArrayVec;
 use roster_costs::slot;
 use roster_instance::{Choice, Shift, Skill, choice_on};
 use roster_offers::{
-    MOST_OFFERS, NurseDay, Offer, Offering, SearchesRows, Workspace, offers_by_shift,
+    MOST_OFFERS, NurseDay, Offer, Offering, OffersDays, SearchesRows, Workspace, offers_by_shift,
+    put_offers,
 };
 use roster_rules::is_frozen;
 use roster_rules::weights::STAFFING;
@@ -40,23 +41,32 @@ pub(crate) fn offers_of_days<T: SearchesRows>(
     ensures same_capacity { SameCapacity workspace.old workspace.new }
     ensures fits { fits_space asking.now.case.now workspace.new ≡ true }
 {
-    asking.case.keeps_limits();
-    workspace.clear_offers();
-    for day in 0..asking.case.days() {
-        workspace.push_offers(offers_of_day(asking, nurse, day));
-    }
+    put_offers(asking.case, nurse, &TakingDays { asking }, workspace)
 }
 
-/// The offers of one day: to be off, and for each shift the cheapest; among equally cheap ones the first.
-fn offers_of_day(asking: &Asking<'_>, nurse: usize, day: u16) -> ArrayVec<Offer, MOST_OFFERS>
-    requires nurse { nurse < nurse_count asking.now.case.now }
-    requires day { day < day_count asking.now.case.now }
-    ensures offers { result.items ≡ shift_taking_offers asking.now.case.now asking.now.from
-        asking.now.roster.now asking.now.asked nurse day }
-{
-    let case = asking.case;
-    let frozen = is_frozen(case, asking.from, nurse, day);
-    offers_by_shift(&NurseDay { case, nurse, day }, &Taking { asking, frozen })
+/// Offers on each day to be off, and for each shift the cheapest; among equally cheap ones the first.
+#[derive(Clone, Copy)]
+struct TakingDays<'a> {
+    asking: &'a Asking<'a>,
+}
+
+impl OffersDays for TakingDays<'_> {
+    ghost use Rattle.std.specs.Prelude.{◌<◌};
+    ghost use Rattle.roster_instance.specs.Meaning.{day_count, nurse_count};
+    ghost use Rattle.roster_who.specs.Offers.{shift_taking_offers};
+
+    ghost Serves = { λ o n d. (n < nurse_count o.asking.now.case.now)
+        × (d < day_count o.asking.now.case.now) };
+
+    ghost offers = { λ o n d. shift_taking_offers o.asking.now.case.now o.asking.now.from
+        o.asking.now.roster.now o.asking.now.asked n d };
+
+    fn offers_of_day(&self, nurse: usize, day: u16) -> ArrayVec<Offer, MOST_OFFERS> {
+        let asking = self.asking;
+        let case = asking.case;
+        let frozen = is_frozen(case, asking.from, nurse, day);
+        offers_by_shift(&NurseDay { case, nurse, day }, &Taking { asking, frozen })
+    }
 }
 
 /// Offers the choices of a day that a row with the assignment may have, each with its price.

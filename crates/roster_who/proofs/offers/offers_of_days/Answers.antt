@@ -1,5 +1,7 @@
-use Rattle.roster_offers.proofs.WorkspaceLaws.{fits_after}
 use Rattle.roster_who.proofs.offers.offers_of_days.Goals as goal
 
-pub returns-clause-fits : goal.returns-clause-fits
-returns-clause-fits g c = fits_after c.args.asking.now.case.now c.args.workspace.now c.loop-day.workspace c.loop-day.invariant.same_capacity c.requires.fits
+pub put_offers-requires-clause-serves : goal.put_offers-requires-clause-serves
+put_offers-requires-clause-serves g c = λ day within. (c.requires.nurse, within)
+
+pub returns-clause-offers : goal.returns-clause-offers
+returns-clause-offers g c = record { days = c.put_offers.ensures.days; each = c.put_offers.ensures.each }
