@@ -3,7 +3,6 @@
 ghost use Rattle.std.specs.Prelude.{◌≡◌, ◌+◌, ◌<◌, ◌≤◌, ℕ, length};
 ghost use Rattle.roster_instance.specs.Choices.{shift_of};
 ghost use Rattle.roster_instance.specs.Meaning.{shift_count};
-ghost use Rattle.roster_rules.specs.DayLaw.{splits_more, weekends_more};
 ghost use Rattle.roster_offers.specs.Lists.{IsOfferOf, most_price};
 ghost use Rattle.roster_state.specs.CompletionLines.{AreLow, most_leave};
 ghost use Rattle.roster_completion.specs.Lines.{AreOnward, AreOpen, AreWays, IsLeastWay, IsOnward, IsOpenWay, IsWayAt, IsWayOf, apart_of, way_at, way_cost};
@@ -12,6 +11,7 @@ use crate::completion_day::CompletionDay;
 use roster_instance::Shift;
 use roster_offers::{MOST_OFFERS, Offer};
 use roster_rules::weights::{SHIFT_RUN, SPLIT};
+use roster_rules::{splits_more, weekends_more};
 
 /// The greatest cost of a day and of what comes after it, as completion bounds count it. Together with what
 /// the run of a shift misses, a completion bound is at most 714,740,250. This is within the range of labels,
@@ -189,27 +189,4 @@ pub(crate) fn least_way(ways: &Ways, more: usize, next: &[u32]) -> u32
         least = least.min(way.price + next[way.index as usize + more]);
     }
     least
-}
-
-// ---- weekends
-
-/// How many worked weekends a day adds: one if it is a worked Saturday, or a worked Sunday after a free
-/// Saturday.
-fn weekends_more(day: u16, before: bool, now: bool) -> u32
-    ensures more { result ≡ weekends_more day before now }
-    ensures within { result ≤ 1 }
-{
-    match day % 7 {
-        5 => now as u32,
-        6 => (!before && now) as u32,
-        _ => 0,
-    }
-}
-
-/// How many split weekends a day adds: one if it is a Sunday and only one of the weekend's days is worked.
-fn splits_more(day: u16, before: bool, now: bool) -> u32
-    ensures more { result ≡ splits_more day before now }
-    ensures within { result ≤ 1 }
-{
-    (day % 7 == 6 && before != now) as u32
 }

@@ -15,6 +15,7 @@ use roster_completion::{
 };
 use roster_instance::Case;
 use roster_offers::{MOST_OFFERS, SearchInput};
+use roster_rules::weekends_more;
 use roster_rules::weights::{ASSIGNMENT, WEEKEND};
 use roster_state::{Meter, NurseDays, State, end_cost, start};
 use std::cmp::min;
@@ -388,16 +389,11 @@ fn with_transition(
     transition: &DayTransition,
 ) -> Followed {
     let is_worked = transition.state.last_number() > 0;
-    // A weekend is worked from its first worked day on.
-    let begins_weekend = match day % 7 {
-        5 => is_worked,
-        6 => is_worked && before.last_number() == 0,
-        _ => false,
-    };
+    let weekends = weekends_more(day, before.last_number() > 0, is_worked);
     Followed {
         cost: row.cost.saturating_add(transition.cost),
         assignments: row.assignments.saturating_add(is_worked as u32),
-        weekends: row.weekends.saturating_add(begins_weekend as u32),
+        weekends: row.weekends.saturating_add(weekends),
     }
 }
 

@@ -5,7 +5,8 @@
 //! `specs/Penalties.antt`, over runs of days (`specs/Runs.antt`) and weights (`specs/Weights.antt`); what the
 //! first days of a row cost in `specs/Prefix.antt`, best rows in `specs/AllowedRows.antt`, and the improver's
 //! runs in `specs/Improver.antt`. The functions that count by these rules are in `roster_costs` and in
-//! `roster_state`. The laws that let them go day by day are in `src/laws.rt`.
+//! `roster_state`. The laws that let them go day by day are in `src/laws.rt`; `weekends_more` and
+//! `splits_more` say what a day adds to the weekends.
 #![tactic(auto)]
 
 mod able;
@@ -15,6 +16,7 @@ mod kept;
 mod laws;
 mod penalties;
 mod rows;
+mod weekends;
 pub mod weights;
 mod wishes;
 
@@ -25,4 +27,5 @@ pub use kept::keep_cost_on;
 pub use laws::{runs_grow_by_a_day, runs_of_a_row_grow_by_a_day, weekends_grow_by_a_day};
 pub use penalties::Costs;
 pub use rows::one_first_least_row;
+pub use weekends::{splits_more, weekends_more};
 pub use wishes::meets_wishes;

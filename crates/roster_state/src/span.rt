@@ -8,8 +8,7 @@ ghost use Rattle.roster_state.specs.Codes.{sizes_of};
 
 use crate::block::Block;
 use crate::days::NurseDays;
-use crate::totals::weekends_more;
-use roster_instance::Shift;
+use roster_rules::weekends_more;
 
 /// A strip of each of several blocks: the places from `begin` up to `end`. After the first block, each has
 /// one more worked weekend.
@@ -34,7 +33,8 @@ impl NurseDays<'_> {
             true ≤ (contract_of self.now.case.now self.now.nurse).weekends + 1 }
     {
         let state = span.block.state;
-        let begins = weekends_more(day, state.last, Some(Shift(0)));
+        let last = state.last;
+        let begins = weekends_more(day, last.is_some(), true);
         let before = state.weekends as u32 + begins;
         let left = (self.rules.weekends as u32 + 1).saturating_sub(before);
         span.strips.min(left.max(1))

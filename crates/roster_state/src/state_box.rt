@@ -9,8 +9,8 @@ ghost use Rattle.roster_state.specs.Codes.{shift_digit};
 ghost use Rattle.roster_state.specs.Transition.{next_of, run_with, shift_run_with};
 
 use crate::state::{State, shift_digit, shift_numbered};
-use crate::totals::weekends_more;
 use roster_instance::{Case, Shift};
+use roster_rules::weekends_more;
 use std::cmp::{max, min};
 
 /// The numbers from the least to the greatest. None if the least is the greater.
@@ -212,7 +212,7 @@ fn box_after(
         InBox result (next_of case.now nurse day s shift) }
 {
     let rules = case.contract_rules(nurse);
-    let weekends = weekends_more(day, last, shift);
+    let weekends = weekends_more(day, last.is_some(), shift.is_some());
     let assignments = shift.is_some() as u32;
     StateBox {
         run: run_after(case, nurse, before.run, last, shift),

@@ -14,6 +14,7 @@ ghost use Rattle.roster_state.specs.Transition.{end_cost_of};
 
 use crate::state::State;
 use roster_instance::{Case, ContractRules, Limits, Past, Shift};
+use roster_rules::weekends_more;
 use roster_rules::weights::{ASSIGNMENT, WEEKEND};
 use std::cmp::min;
 
@@ -45,23 +46,12 @@ pub(crate) fn totals_after(
         rules.weekends }
 {
     let assignments = state.assignments as u32 + shift.is_some() as u32;
-    let weekends = state.weekends as u32 + weekends_more(day, state.last, shift);
+    let weekends = state.weekends as u32
+        + weekends_more(day, state.last.is_some(), shift.is_some());
     (
         min(assignments, rules.total.cap() as u32) as u16,
         min(weekends, rules.weekends as u32) as u16,
     )
-}
-
-/// A worked Saturday makes one more worked weekend, and so does a worked Sunday after a free Saturday.
-pub(crate) fn weekends_more(day: u16, before: Option<Shift>, now: Option<Shift>) -> u32
-    ensures more { result ≡ weekends_more day (is_some before) (is_some now) }
-    ensures within { result ≤ 1 }
-{
-    match day % 7 {
-        5 => now.is_some() as u32,
-        6 => (before.is_none() && now.is_some()) as u32,
-        _ => 0,
-    }
 }
 
 /// S6. The points for an assignment above the greatest total.
@@ -116,7 +106,7 @@ pub(crate) fn weekend_more(
     if state.weekends < rules.weekends {
         return 0;
     }
-    WEEKEND * weekends_more(day, state.last, shift)
+    WEEKEND * weekends_more(day, state.last.is_some(), shift.is_some())
 }
 
 /// S6. The points for each assignment missing to the least total.

@@ -17,6 +17,7 @@ ghost use Rattle.roster_instance.specs.RunLaw.{day_violations};
 use crate::state::State;
 use crate::totals::{missing_cost, start_cost, total_more, totals_after, weekend_more};
 use roster_instance::{Border, Case, ContractRules, Limits, Past, Shift};
+use roster_rules::splits_more;
 use roster_rules::weights::{FREE_RUN, SHIFT_RUN, SPLIT, WORKING_RUN};
 use std::cmp::min;
 
@@ -213,7 +214,7 @@ pub(crate) fn split_more(rules: ContractRules, day: u16, state: State, shift: Op
     if !rules.whole_weekends {
         return 0;
     }
-    SPLIT * splits_more(day, state.last, shift)
+    SPLIT * splits_more(day, state.last.is_some(), shift.is_some())
 }
 
 /// The points for each missing or extra day of the runs of the shifts. The run of the last shift may end,
@@ -296,14 +297,4 @@ pub(crate) fn longer(run: u32, limits: Limits) -> u16
     ensures { result ≡ min (run + 1) (cap limits) }
 {
     min(run + 1, limits.cap() as u32) as u16
-}
-
-// ---- weekends
-
-/// A Sunday ends a weekend, of which one day may be worked alone.
-fn splits_more(day: u16, before: Option<Shift>, now: Option<Shift>) -> u32
-    ensures more { result ≡ splits_more day (is_some before) (is_some now) }
-    ensures within { result ≤ 1 }
-{
-    (day % 7 == 6 && before.is_some() != now.is_some()) as u32
 }

@@ -19,7 +19,7 @@ unfolding next_of
 returns c s last inside =
     let rules = c.contract_rules-rules.ensures.rules in
     let total : c.cap.result ≡ cap (contract_of c.args.case.now c.args.nurse).total = c.cap.ensures ∙ ap (λ (r : ContractRules). cap r.total) rules in
-    let more = c.weekends_more-weekends.ensures.more ∙ ap (λ (l : Option Shift). weekends_more c.args.day (is_some l) (is_some c.args.shift)) (sym last) in
+    let more = c.weekends_more-weekends.ensures.more ∙ ap₂ (λ b w. weekends_more c.args.day b w) c.is_some.ensures c.is_some-2.ensures ∙ ap (λ (l : Option Shift). weekends_more c.args.day (is_some l) (is_some c.args.shift)) (sym last) in
     let weekends = ap₂ (λ m y. min (s.weekends + m) y) more (ap (λ (r : ContractRules). r.weekends) rules) in
     let works : c.is_some-assignments.result ≡ is_some c.args.shift = c.is_some-assignments.ensures in
     let assignments = ap₂ (λ m y. min (s.assignments + m) y) (ap bool_byte works ∙ as_one (is_some c.args.shift)) total in
