@@ -6,7 +6,7 @@ use Rattle.roster_rules.specs.HardRules.{hard_faults}
 use Rattle.roster_instance.specs.Meaning.{Meaning}
 use Rattle.roster_rules.specs.Penalties.{penalty}
 use Rattle.roster_instance.specs.Rosters.{Rows}
-use Rattle.roster_log.specs.declared.fault.LogFault.{LogFault}
+use Rattle.roster_reports.specs.declared.log_fault.LogFault.{LogFault}
 use Rattle.roster_bound.specs.declared.effort.Effort.{Effort}
 use Rattle.roster_bound.specs.BoundLogs.{BoundLogStops, RaisesBound, bound_log_text}
 use Rattle.roster_answers.specs.Answer.{IsBoundReport, IsUnheld, Output, Reports, StopsOutput, Untouched, bound_report, outcome_of}

@@ -13,8 +13,8 @@ use Rattle.roster_rules.specs.Penalties.{penalty}
 use Rattle.roster_laws.proofs.Frozen.{stays_self}
 use Rattle.roster_rules.specs.Weights.{staffing_weight}
 use Rattle.roster_rules.specs.Improver.{line, start_word}
-use Rattle.roster_log.specs.declared.fault.LogFault.{LogFault}
-use Rattle.roster_log.specs.declared.fault.LogFault.TheVariants.{LogFailed}
+use Rattle.roster_reports.specs.declared.log_fault.LogFault.{LogFault}
+use Rattle.roster_reports.specs.declared.log_fault.LogFault.TheVariants.{LogFailed}
 use Rattle.roster_bound.specs.declared.effort.Effort.{Effort}
 use Rattle.roster_bound.specs.declared.effort.Reached.{Reached}
 use Rattle.roster_bound.specs.BoundLogs.{BoundLine, BoundLogStops, HasReached, IsBoundLog, IsRoundBound, RaisesBound, Rises, bound_line, bound_log_text, last_line, no_line, rounds_alone}

@@ -6,8 +6,8 @@ use Rattle.roster_instance.specs.Meaning.{Meaning}
 use Rattle.roster_instance.specs.Rosters.{Rows}
 use Rattle.roster_rules.specs.Penalties.{penalty}
 use Rattle.roster_rules.specs.Improver.{line, start_word}
-use Rattle.roster_log.specs.declared.fault.LogFault.{LogFault}
-use Rattle.roster_log.specs.declared.fault.LogFault.TheVariants.{LogFailed}
+use Rattle.roster_reports.specs.declared.log_fault.LogFault.{LogFault}
+use Rattle.roster_reports.specs.declared.log_fault.LogFault.TheVariants.{LogFailed}
 use Rattle.roster_bound.specs.declared.effort.Effort.{Effort}
 use Rattle.roster_bound.specs.declared.effort.Reached.{Reached}
 use Rattle.roster_slots.specs.Slots.{AreDualPrices, SlotPrices}

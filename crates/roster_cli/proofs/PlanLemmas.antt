@@ -7,7 +7,7 @@ use Rattle.roster_rules.specs.HardRules.{hard_faults}
 use Rattle.roster_instance.specs.Meaning.{Meaning}
 use Rattle.roster_instance.specs.Rosters.{Rows, fits_case}
 use Rattle.roster_case.specs.Shown.{weeks_text}
-use Rattle.roster_log.specs.declared.fault.LogFault.{LogFault}
+use Rattle.roster_reports.specs.declared.log_fault.LogFault.{LogFault}
 use Rattle.roster_costs.specs.Irreparable.{irreparable}
 use Rattle.roster_costs.specs.Minimums.{missing}
 use Rattle.roster_polish.specs.Plans.{IsPlanned}

@@ -7,7 +7,7 @@ use Rattle.roster_rules.specs.Penalties.{penalty}
 use Rattle.roster_instance.specs.Meaning.{Meaning}
 use Rattle.roster_instance.specs.Rosters.{Rows}
 use Rattle.roster_case.specs.Shown.{weeks_text}
-use Rattle.roster_log.specs.declared.fault.LogFault.{LogFault}
+use Rattle.roster_reports.specs.declared.log_fault.LogFault.{LogFault}
 use Rattle.roster_polish.specs.Polished.{IsPolishing, PolishLogStops, Polishes}
 use Rattle.roster_polish.specs.declared.run.Polished.{Polished}
 use Rattle.roster_polish.proofs.KickLogs.{unkicked_text}

@@ -6,9 +6,9 @@ ghost use Rattle.roster_answers.specs.Answer.{Reports, outcome_of, output_of};
 ghost use Rattle.roster_cli.specs.Answer.{IsPolishFor};
 
 use roster_answers::{Fault, Instance, hold, show_weeks};
-use roster_log::LogFault;
 use roster_partial::RowSearcher;
 use roster_polish::{Course, MOST_SEARCHES, PolishSpace, polish, searches_fit_meter};
+use roster_reports::LogFault;
 use roster_state::Meter;
 use roster_text::Watch;
 use std::alloc::Global;

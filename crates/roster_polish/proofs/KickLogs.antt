@@ -18,7 +18,7 @@ use Rattle.roster_laws.proofs.Frozen.{stays_self, steps_stay}
 use Rattle.roster_laws.proofs.Kept.{IsKept, run_keeps, step_keeps}
 use Rattle.roster_laws.proofs.Runs.{fall, settled_rows}
 use Rattle.roster_rounds.specs.PutIn.{IsAccepted}
-use Rattle.roster_log.specs.declared.fault.LogFault.TheVariants.{LogFailed}
+use Rattle.roster_reports.specs.declared.log_fault.LogFault.TheVariants.{LogFailed}
 use Rattle.roster_polish.specs.declared.run.Polished.{Polished}
 use Rattle.roster_polish.specs.Polished.{Falls, IsFaded, IsKickLog, IsPolishing, IsReached, KickLine, PolishLogStops, Polishes, LogEntry, begun, fade_line, fade_text, first_run, held_at, kick_line, kicks_text, last_kick, last_line, descent_rounds, no_kick, fade_entry, kick_entry, last_entry, log_entries, start_entry}
 use Rattle.roster_polish.specs.Settled.{IsSettled}

@@ -8,8 +8,8 @@ use Rattle.roster_laws.specs.FrozenDays.{FrozenDaysStay}
 use Rattle.roster_rounds.specs.PutIn.{IsAccepted}
 use Rattle.roster_rules.specs.AllowedRows.{best_row}
 use Rattle.roster_rules.specs.Improver.{Run, line, round, run, same_rows, start_word}
-use Rattle.roster_log.specs.declared.fault.LogFault.{LogFault}
-use Rattle.roster_log.specs.declared.fault.LogFault.TheVariants.{LogFailed}
+use Rattle.roster_reports.specs.declared.log_fault.LogFault.{LogFault}
+use Rattle.roster_reports.specs.declared.log_fault.LogFault.TheVariants.{LogFailed}
 use Rattle.roster_row.specs.Recalled.{RecallsSearches}
 use Rattle.roster_prices.specs.Workspaces.{FitsBound}
 use Rattle.roster_polish.specs.declared.run.Polished.{Polished}

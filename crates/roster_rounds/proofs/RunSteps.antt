@@ -14,7 +14,7 @@ use Rattle.roster_laws.proofs.Rounds.{changes_in-append, changes_in-round, round
 use Rattle.roster_laws.proofs.Runs.{entries-goes_on, entries-settled, run-goes_on, run-settled, run-stopped}
 use Rattle.roster_laws.proofs.SameRows.{same_rows_is}
 use Rattle.roster_rounds.specs.RunLogs.{BreaksAmong, LogStops, Ran, RoundMade, text_of}
-use Rattle.roster_log.specs.declared.fault.LogFault.TheVariants.{LogFailed}
+use Rattle.roster_reports.specs.declared.log_fault.LogFault.TheVariants.{LogFailed}
 use Rattle.roster_rounds.proofs.Sent.{BreaksAmong-after, BreaksAmong-front, BreaksAmong-one, Sends-entries, Sends-one}
 
 -- ---- a run, a round at a time

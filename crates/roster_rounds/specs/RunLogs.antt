@@ -9,8 +9,8 @@ use Rattle.roster_instance.specs.Meaning.{Meaning, nurse_count}
 use Rattle.roster_instance.specs.Rosters.{Rows}
 use Rattle.roster_rules.specs.Improver.{BestRows, Entry, changes, line_of, log_of, round, round_log, run}
 use Rattle.roster_laws.specs.Logs as laws
-use Rattle.roster_log.specs.declared.fault.LogFault.{LogFault}
-use Rattle.roster_log.specs.declared.fault.LogFault.TheVariants.{LogFailed}
+use Rattle.roster_reports.specs.declared.log_fault.LogFault.{LogFault}
+use Rattle.roster_reports.specs.declared.log_fault.LogFault.TheVariants.{LogFailed}
 use Rattle.roster_rounds.specs.declared.outcome.Outcome.{Outcome}
 
 -- the text of some entries

@@ -18,7 +18,7 @@ pub use headline::each_row_put_in_is_best;
 pub use nurse::{step, step_or_skip};
 pub use outcome::{Outcome, Step};
 pub use room::{extensions_are_few, most_extensions, rounds_have_room, search_has_room};
-pub use roster_log::LogFault;
+pub use roster_reports::LogFault;
 pub use rounds::improve;
 pub use space::RunSpace;
 pub use steps::Steps;

@@ -13,7 +13,7 @@ ghost use Rattle.roster_rounds.specs.RunLogs.{BreaksAmong, LogStops, Ran, RoundM
 use crate::outcome::Outcome;
 use crate::steps::Steps;
 use roster_case::Held;
-use roster_log::{LogFault, log_change, log_round, log_start, log_word};
+use roster_reports::{LogFault, log_change, log_round, log_start, log_word};
 use roster_state::Meter;
 use roster_text::{Watch, WriteFault};
 use std::io::Write;

@@ -14,7 +14,7 @@ pub enum LogFault {
 impl From<WriteFault> for LogFault {
     ghost use Rattle.std.specs.Prelude.{◌≡◌};
     ghost use Rattle.roster_text.specs.Io.{sent_of};
-    ghost use Rattle.roster_log.specs.declared.fault.LogFault.TheVariants.{LogFailed};
+    ghost use Rattle.roster_reports.specs.declared.log_fault.LogFault.TheVariants.{LogFailed};
 
     ghost from_gives = { λ fault e. e ≡ LogFailed (sent_of fault) };
 
