@@ -280,9 +280,10 @@ def one_day_more(case, contract, state, shift, day):
     return cost, (shift, run, of_shift, total + works, weekends)
 
 
-def cheapest_row(case, number, all_offers):
+def cheapest_row(case, number, all_offers, scale=1):
     """What the first of a nurse's cheapest rows among these offers costs, and the row. Of all beginnings of rows that lead to the same
-    state the cheapest is kept, of equally cheap ones the first."""
+    state the cheapest is kept, of equally cheap ones the first. A scale says in how many parts of a point the prices are, and what the
+    row costs."""
     nurse = case.nurses[number]
     contract, past = case.contracts[nurse.contract], nurse.history
     run = past.off if past.last is None else past.working
@@ -299,10 +300,10 @@ def cheapest_row(case, number, all_offers):
             for shift, (price, index) in of_shifts.items():
                 if (state[0], shift) not in case.forbidden:
                     more, after = one_day_more(case, contract, state, shift, day)
-                    label = (cost + price + more, (*row, index))
+                    label = (cost + price + scale * more, (*row, index))
                     found[after] = min(found.get(after, label), label)
         kept = found
-    ends = [(cost + total_cost(contract, *state[3:]), row) for state, (cost, row) in kept.items()]
+    ends = [(cost + scale * total_cost(contract, *state[3:]), row) for state, (cost, row) in kept.items()]
     cost, row = min(ends)
     return cost, [offers[index][0] for offers, index in zip(all_offers, row)]
 
@@ -372,180 +373,208 @@ def with_row(roster, number, row):
     return [*roster[:number], row, *roster[number + 1 :]]
 
 
-# ---- a lower bound on what any roster costs
+# ---- a lower bound on what any roster costs. Its dual prices, and what searches find by them, are in parts of a point.
 
 
-def even_dual_prices(case, dual_price):
-    """One dual price for each slot that asks for nurses, and 0 for the others: by shift and skill, a list over the days."""
-    return {at: [dual_price if max(need) else 0 for need in of_days] for at, of_days in case.needs.items()}
+def scale_of(case):
+    """How many parts a point has: the greatest power of two, up to 128, by which no row can cost 2 to the power of 30 parts."""
+    points = 7 * case.weeks * (200_500 + 45_080) + 19_980
+    return max(scale for scale in (1, 2, 4, 8, 16, 32, 64, 128) if scale * points < 1 << 30)
 
 
-def slot_bound(need, dual_price):
+def unit_of(case):
+    """Each penalty is a multiple of this, unless a roster is kept at points that aren't."""
+    return 1 if case.keep % 5 else 5
+
+
+def slot_bound(need, dual_price, scale):
     """The least that a slot costs with its minimum or more, over all covers: for the nurses that are lacking, and the dual price of
     each nurse who is there."""
-    return min(30 * max(0, need.greatest - nurses) + dual_price * nurses for nurses in range(need.least, max(need) + 1))
+    return min(30 * scale * max(0, need.greatest - nurses) + dual_price * nurses for nurses in range(need.least, max(need) + 1))
 
 
 def row_bound(case, roster, number, dual_prices, first_week=0):
     """The least reduced cost of a nurse's rows, and the first of the rows that have it. The rows are those with her skills and absences
     and without a forbidden succession, which agree with the roster on frozen days."""
-    dual_price = lambda day, choice: dual_prices[choice][day] if choice in dual_prices else 0
+    scale = scale_of(case)
+    dual_price = lambda day, choice: dual_prices.get((*choice, day), 0) if choice else 0
     free = lambda day: [roster[number][day]] if is_frozen(case, number, day, first_week) else choices_of(case, number, day)
-    price = lambda day, choice: request_cost(case, number, day, choice) - dual_price(day, choice)
-    return cheapest_row(case, number, [[(choice, price(day, choice)) for choice in free(day)] for day in days_of(case)])
+    price = lambda day, choice: scale * request_cost(case, number, day, choice) - dual_price(day, choice)
+    return cheapest_row(case, number, [[(choice, price(day, choice)) for choice in free(day)] for day in days_of(case)], scale)
 
 
-def lower_bound(case, roster, dual_prices, first_week=0):
-    """The lower bound of these dual prices, and the rows that it was reckoned by: every roster that keeps the hard rules and the frozen
-    days costs at least that much, since the dual prices that slots add are those that rows save. Each penalty is a multiple of 5,
-    unless a roster is kept at points that aren't, so the bound is rounded up to one."""
-    slots = sum(slot_bound(need, price) for at in case.needs for need, price in zip(case.needs[at], dual_prices[at]))
+def least_sum(case, roster, dual_prices, first_week=0):
+    """What slots and nurses cost at least by these dual prices, in parts, and the rows that it was reckoned by: every roster that keeps
+    the hard rules and the frozen days costs at least that much, since the dual prices that slots add are those that rows save."""
+    slots = sum(slot_bound(need, dual_prices[slot], scale_of(case)) for slot, need in slots_of(case).items())
     rows = [row_bound(case, roster, number, dual_prices, first_week) for number in range(len(case.nurses))]
-    unit = 1 if case.keep % 5 else 5
-    return unit * -(-max(0, slots + sum(least for least, _ in rows)) // unit), [row for _, row in rows]
+    return slots + sum(least for least, _ in rows), [row for _, row in rows]
 
 
-# ---- how dual prices go on from round to round. That is the program's own affair, and is reckoned here for its tests. Dual prices are
-# held in fractions of a point. The wanted cover of a slot and its cover are sums in which earlier rows count less and less.
+def in_points(case, together):
+    """A sum in parts as a lower bound: rounded up to points, and then to what a penalty can be."""
+    points = -(-max(0, together) // scale_of(case))
+    return unit_of(case) * -(-points // unit_of(case))
 
-# A point has that many fractions.
-FRACTIONS = 16_384
-# How many subgradient steps there are between two rounds, and how many rows the pool keeps for each nurse.
-STEPS = 20
+
+# ---- how dual prices move from round to round. That is the program's own affair, and is reckoned here for its tests. Nothing of it
+# depends on how many rounds are asked for. Between two rounds dual prices are in fine units, and their value is what slots cost at least
+# by them and each nurse's cheapest pooled row, together.
+
+# A point has that many fine units.
+FINE = 16_384
+# The greatest dual price, in points.
+MOST_DUAL_PRICE = 200_000
+# How many steps there are at most between two rounds, and how many rows the pool keeps for each nurse.
+STEPS = 50
 POOLED = 64
+# How many rounds in a row may each raise the greatest sum by less than a quarter of a point.
+BARREN = 30
 
 
-def points(fine):
-    return (fine + FRACTIONS // 2) // FRACTIONS
+def towards_nought(number, by):
+    """A number divided by one above 0, and rounded towards nought."""
+    return number // by if number >= 0 else -(-number // by)
 
 
-def decayed(before, more):
-    return min(256 * more + before * 179 // 256, 1 << 20)
+def inner(these, those):
+    """The inner product of two numbers for each slot."""
+    return sum(number * those[slot] for slot, number in these.items())
 
 
-def step_length(made, steps):
-    """18 points times the third power of the share of the steps that are left, rounded down each time."""
-    length = 18 * FRACTIONS
-    for _ in range(3):
-        length = length * (steps - made) // steps
-    return length
+def within(least, number, greatest):
+    return min(max(least, number), greatest)
 
 
-def slot_steps(wanted, had, length):
-    """How far the dual price of each slot moves: by the whole step length if its cover is farthest from the wanted one, or if none is
-    more than one away."""
-    apart = {slot: abs(wanted[slot] - had[slot]) for slot in wanted}
-    return {slot: min(apart[slot] * length // max(1, *apart.values()), length) for slot in wanted}
+def slots_of(case):
+    """The slots that ask for nurses, each a shift, a skill and a day, and what they ask for. The others pay nothing, and never will."""
+    return {(*at, day): need for at, of_days in case.needs.items() for day, need in enumerate(of_days) if max(need)}
 
 
-def next_dual_price(fine, wanted, had, step):
-    """Higher if nurses are lacking, up to 200,000 points, and lower if there are too many."""
-    return min(fine + step, 200_000 * FRACTIONS) if had < wanted else max(0, fine - step) if wanted < had else fine
-
-
-def is_late(made, rounds):
-    """Whether coordinate ascent sets the dual prices of the next round: it does in the last fifth of the rounds."""
-    return 5 * made >= 4 * rounds
+Pooled = collections.namedtuple("Pooled", "turn row cost slots")
 
 
 class ColumnPool:
-    """The rows that were found last for a nurse, each with when it was found and what it costs apart from dual prices."""
+    """The rows that were found last for a nurse, each with the turn in which it was found, what it costs apart from dual prices, and
+    the slots that it takes."""
 
     def __init__(self, case, number):
-        self.case, self.number, self.rows = case, number, []
+        self.case, self.number, self.rows, self.slots = case, number, [], slots_of(case)
 
     def keep(self, turn, row):
         """Keeps a row: at its own index if it is there already, else after the others, or in place of the one found longest ago."""
-        shifts = shifts_of(row)
         asked = sum(request_cost(self.case, self.number, day, choice) for day, choice in enumerate(row))
-        cost = own_cost(self.case, self.case.nurses[self.number], shifts) + asked
-        same = [index for index, (_, other, _) in enumerate(self.rows) if other == row]
+        cost = own_cost(self.case, self.case.nurses[self.number], shifts_of(row)) + asked
+        taken = [slot for slot in ((*choice, day) for day, choice in enumerate(row) if choice) if slot in self.slots]
+        same = [index for index, pooled in enumerate(self.rows) if pooled.row == row]
         if not same and len(self.rows) < POOLED:
-            self.rows.append((turn, row, cost))
+            self.rows.append(Pooled(turn, row, cost, taken))
         else:
-            self.rows[same[0] if same else self.rows.index(min(self.rows))] = (turn, row, cost)
+            self.rows[same[0] if same else self.rows.index(min(self.rows))] = Pooled(turn, row, cost, taken)
 
-    def cheapest(self, dual_prices):
-        """The first of the pooled rows with the least reduced cost."""
-        saved = lambda row: sum(dual_prices[(*choice, day)] for day, choice in enumerate(row) if choice)
-        return min(self.rows, key=lambda pooled: FRACTIONS * pooled[2] - saved(pooled[1]))[1]
+    def cheapest(self, prices):
+        """The least reduced cost of a pooled row, and the slots of the first that has it."""
+        costs = [FINE * pooled.cost - sum(prices[slot] for slot in pooled.slots) for pooled in self.rows]
+        return min(costs), self.rows[costs.index(min(costs))].slots
 
 
 class DualPrices:
-    """The dual prices of all slots in a run of rounds, and what moves them."""
+    """The dual prices of the slots in a run of rounds, and what moves them: the pools, a margin, and the greatest value of dual prices
+    by which a round has just searched. They move towards a target, which is that value and the margin. It never is above the most that
+    is given here, if any is."""
 
-    def __init__(self, case, rounds):
-        self.case, self.rounds, self.made, self.turn = case, rounds, 0, 0
-        self.slots = list(itertools.product(range(len(case.shifts)), range(len(case.skills)), days_of(case)))
-        self.set_all(30)
-        self.tried = {slot: points(self.fine[slot]) for slot in self.slots}
-        self.wanted, self.had = dict.fromkeys(self.slots, 0), dict.fromkeys(self.slots, 0)
+    def __init__(self, case, most=None):
+        self.case, self.most, self.made, self.turn = case, most, 0, 0
+        self.slots = slots_of(case)
         self.pools = [ColumnPool(case, number) for number in range(len(case.nurses))]
+        self.margin, self.top = 20 * FINE * len(case.nurses), None
+        self.prices = self.even(30)
 
-    def need(self, shift, skill, day):
-        return self.case.needs[shift, skill][day] if (shift, skill) in self.case.needs else Limits(0, 0)
+    def even(self, points):
+        return dict.fromkeys(self.slots, FINE * points)
 
-    def set_all(self, dual_price):
-        self.fine = {slot: FRACTIONS * dual_price if max(self.need(*slot)) else 0 for slot in self.slots}
+    def in_parts(self):
+        """What a round searches by: the nearest parts of a point."""
+        return {slot: (price * scale_of(self.case) + FINE // 2) // FINE for slot, price in self.prices.items()}
 
-    def in_points(self):
-        return {at: [self.tried[(*at, day)] for day in days_of(self.case)] for at in self.case.needs}
+    def value(self, prices):
+        """The value of dual prices, and the cover by the cheapest pooled rows."""
+        cheapest = [pool.cheapest(prices) for pool in self.pools]
+        cover = collections.Counter(itertools.chain.from_iterable(taken for _, taken in cheapest))
+        return sum(slot_bound(self.slots[slot], price, FINE) for slot, price in prices.items()) + sum(cost for cost, _ in cheapest), cover
 
-    def ascend(self):
-        """Coordinate ascent: slot by slot, by day, it takes the other one of the two whole points around a dual price if the bound by
-        the pooled rows is then higher."""
-        saved = lambda row: sum(self.tried[(*choice, day)] for day, choice in enumerate(row) if choice)
-        rows = [[[cost - saved(row), row] for _, row, cost in pool.rows] for pool in self.pools]
-        for slot in sorted(self.slots, key=lambda slot: (slot[2], slot[0], slot[1])):
-            shift, skill, day = slot
-            now, need = self.tried[slot], self.need(*slot)
-            more = (self.fine[slot] > FRACTIONS * now) - (self.fine[slot] < FRACTIONS * now)
-            covers = lambda row: row[day] == (shift, skill)
-            gain = slot_bound(need, now + more) - slot_bound(need, now)
-            gain += sum(min(cost - more * covers(row) for cost, row in of) - min(cost for cost, _ in of) for of in rows)
-            if gain > 0:
-                self.tried[slot] += more
-                for priced_row in itertools.chain(*rows):
-                    priced_row[0] -= more * covers(priced_row[1])
+    def lacking(self, cover):
+        """How many nurses each slot wants at its dual price beyond those whom it has."""
+        wanted = lambda slot: max(self.slots[slot]) if self.prices[slot] <= 30 * FINE else self.slots[slot].least
+        return {slot: wanted(slot) - cover[slot] for slot in self.slots}
 
-    def step(self, rows, steps):
-        """A subgradient step by these rows, after which that many steps are made."""
-        covers = collections.Counter((*choice, day) for row in rows for day, choice in enumerate(row) if choice)
-        for slot in self.slots:
-            need = self.need(*slot)
-            if not max(need):
-                continue
-            wanted = max(need) if self.fine[slot] <= 30 * FRACTIONS else need.least
-            self.wanted[slot] = decayed(self.wanted[slot], wanted)
-            self.had[slot] = decayed(self.had[slot], covers[slot])
-        by = slot_steps(self.wanted, self.had, step_length(steps, self.rounds * STEPS))
-        for slot in self.slots:
-            self.fine[slot] = next_dual_price(self.fine[slot], self.wanted[slot], self.had[slot], by[slot])
+    def target(self, value):
+        """The target of the steps after a round, from the value of the dual prices by which it searched. The margin grows if that rose
+        by an eighth of it, and shrinks otherwise."""
+        if self.top is None or value - self.top >= self.margin // 8:
+            self.margin = min(self.margin * 5 // 4, 1 << 40)
+        else:
+            self.margin = max(self.margin * 59 // 64, FINE // 2)
+        self.top = value if self.top is None else max(self.top, value)
+        return self.top + self.margin if self.most is None else min(self.top + self.margin, self.most)
 
-    def extend_row(self, rows):
-        """Goes on to the next round from one that found these rows. After the first round the dual prices begin again at 15."""
+    def step(self, direction, short, left):
+        """A step in this direction, of Polyak's length: as far as the value would have to go if it rose evenly, and less from step to
+        step."""
+        length, short = inner(direction, direction), min(short, 1 << 40) * left // STEPS
+        for slot, towards in direction.items():
+            moved = self.prices[slot] + towards_nought(short * 16 * towards, length)
+            self.prices[slot] = within(0, moved, MOST_DUAL_PRICE * FINE)
+
+    def move(self):
+        """Makes steps, each in the direction of what slots lack, and of the step before as far as the two point apart."""
+        direction, target = dict.fromkeys(self.slots, 0), None
+        for made in range(STEPS):
+            value, cover = self.value(self.prices)
+            target = self.target(value) if target is None else target
+            towards = {slot: 16 * lacking for slot, lacking in self.lacking(cover).items()}
+            apart = max(0, -inner(towards, direction))
+            share = min(256, 256 * apart // max(1, inner(direction, direction)))
+            direction = {slot: within(-1 << 16, towards[slot] + towards_nought(share * before, 256), 1 << 16)
+                         for slot, before in direction.items()}
+            if value >= target or not any(direction.values()):
+                break
+            self.step(direction, target - value, STEPS - made)
+
+    def go_on(self, rows):
+        """Goes on to the next round from one that found these rows: after the first to 15 points, and then, after the second from the
+        better of 30 and 15 points, by steps."""
         for pool, row in zip(self.pools, rows):
             self.turn += 1
             pool.keep(self.turn, row)
-        if self.made == 0:
-            self.set_all(15)
-        else:
-            self.step(rows, self.made * STEPS + 1)
-            for more in range(2, STEPS + 1):
-                self.step([pool.cheapest(self.fine) for pool in self.pools], self.made * STEPS + more)
-        self.tried = {slot: points(self.fine[slot]) for slot in self.slots}
-        if is_late(self.made, self.rounds):
-            self.ascend()
         self.made += 1
+        if self.made == 1:
+            self.prices = self.even(15)
+            return
+        if self.made == 2 and self.value(self.even(30))[0] > self.value(self.even(15))[0]:
+            self.prices = self.even(30)
+        self.move()
 
 
-def lower_bounds(case, roster, rounds, first_week=0):
-    """The lower bound of each round."""
-    dual_prices = DualPrices(case, rounds)
-    for _ in range(rounds):
-        reached, rows = lower_bound(case, roster, dual_prices.in_points(), first_week)
-        yield reached
-        dual_prices.extend_row(rows)
+def least_sums(case, roster, first_week=0, most=None):
+    """The sums of a run's rounds, one after the other, in parts."""
+    dual_prices = DualPrices(case, most)
+    while True:
+        together, rows = least_sum(case, roster, dual_prices.in_parts(), first_week)
+        yield together
+        dual_prices.go_on(rows)
+
+
+def until_barren(case, sums):
+    """These sums, until 30 in a row have each raised the greatest one before by less than a quarter of a point."""
+    greatest, barren = None, 0
+    for together in sums:
+        yield together
+        is_barren = greatest is not None and 4 * (together - greatest) < scale_of(case)
+        greatest = max(greatest, together) if is_barren else together
+        barren = barren + 1 if is_barren else 0
+        if barren == BARREN:
+            break
 
 
 # ---- what the commands answer: the output and the log
@@ -602,17 +631,24 @@ def improve(case, roster, rounds, first_week=0):
     return solutions(case, roster), "".join(f"{line}\n" for line in log)
 
 
+def raised(case, roster, rounds, first_week=0):
+    """The rounds in which 'bound' raises its lower bound, each with the bound that it reaches, and how many rounds it makes: that many,
+    or fewer if the bound comes to be what the roster costs, or if rounds are barren."""
+    total, lines, made = penalty(case, roster), [(0, 0)], 0
+    sums = until_barren(case, least_sums(case, roster, first_week, FINE * (total - unit_of(case) + 1)))
+    while made < rounds and lines[-1][1] < total and (together := next(sums, None)) is not None:
+        made += 1
+        if in_points(case, together) > lines[-1][1]:
+            lines.append((made, in_points(case, together)))
+    return lines[1:], made
+
+
 def bound(case, roster, rounds, first_week=0):
-    """What 'bound' answers after that many rounds, or as soon as the bound is what the roster costs."""
-    best, total = 0, penalty(case, roster)
-    log = [start_of(case, total)]
-    for number, reached in enumerate(lower_bounds(case, roster, rounds, first_week), 1):
-        if best == total:
-            break
-        if reached > best:
-            best = reached
-            log.append(f"round {number} {best}")
-    return f"roster {total}\nbound {best}\n", "".join(f"{line}\n" for line in log)
+    """What 'bound' answers."""
+    total, lines = penalty(case, roster), [start_of(case, penalty(case, roster))]
+    found = raised(case, roster, rounds, first_week)[0]
+    lines += [f"round {number} {reached}" for number, reached in found]
+    return f"roster {total}\nbound {found[-1][1] if found else 0}\n", "".join(f"{line}\n" for line in lines)
 
 
 # ---- texts that are accepted

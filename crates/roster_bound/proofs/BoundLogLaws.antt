@@ -1,5 +1,5 @@
 -- A run that raises a lower bound: the lines so far are sent.
-use Rattle.std.proofs.Common.{All, ◌≡◌, ◌∙◌, ◌+◌, ◌<◌, ◌≤◌, ◌⊎◌, ℕ, zero, suc, Bool, true, false, List, [], ◌∷◌, ◌++◌, Option, ap, append_assoc, append-nil, arith, flat_map, if◌then◌else◌, inl, inr, length, refl, subst, sym, zero-add}
+use Rattle.std.proofs.Common.{All, ◌≡◌, ◌∙◌, ◌+◌, ◌*◌, ◌<◌, ◌≤◌, ◌⊎◌, ℕ, zero, suc, Bool, true, false, List, [], ◌∷◌, ◌++◌, Option, ap, append_assoc, append-nil, arith, flat_map, if◌then◌else◌, inl, inr, length, refl, subst, sym, zero-add}
 use Rattle.std.proofs.lemmas.Bool.{cases_lt}
 use Rattle.std.proofs.lemmas.List.Concat.{flat_map-append}
 use Rattle.std.proofs.lemmas.List.Elements.{All-append, All-cons, All-nil, All-weaker}
@@ -24,7 +24,7 @@ use Rattle.roster_bound.proofs.Duality.{no_roster_below}
 
 -- ---- one more line
 
-last_is : (before : BoundLine) (xs : List BoundLine) (x : BoundLine) → last_line before (xs ++ x ∷ []) ≡ x
+pub last_is : (before : BoundLine) (xs : List BoundLine) (x : BoundLine) → last_line before (xs ++ x ∷ []) ≡ x
 last_is before [] x = refl
 last_is before (y ∷ xs) x = last_is y xs x
 
@@ -56,24 +56,31 @@ first_text c given total e = ap (line (start_word c)) e ∙ sym (append-nil (lin
 -- ---- the bound of a round, after this many others
 
 pub record IsBoundOfRound (c : Meaning) (from : ℕ) (given : Rows) (made bound : ℕ) : Type 0 where
+  pub scale : ℕ
+  pub some : 0 < scale
   pub dual_prices : SlotPrices
-  pub are_dual_prices : AreDualPrices dual_prices
-  pub bound_is : bound ≡ bound_by c from given dual_prices
+  pub are_dual_prices : AreDualPrices scale dual_prices
+  pub bound_is : bound ≡ bound_by c from given scale dual_prices
   pub first : made ≡ 0 → bound ≡ first_bound c from given
 
 module _ (c : Meaning) (from : ℕ) (given : Rows) where
   pub bounds_below : (made bound : ℕ) → IsBoundOfRound c from given made bound → IsLowerBound c from given bound
-  bounds_below made bound t = subst (IsLowerBound c from given) (sym t.bound_is) (no_roster_below c from given t.dual_prices t.are_dual_prices)
+  bounds_below made bound t = subst (IsLowerBound c from given) (sym t.bound_is) (no_roster_below c from given t.scale t.dual_prices t.some t.are_dual_prices)
 
   -- the first round
-  even_within : (asks : Bool) → (if asks then staffing_weight else 0) ≤ most_dual_price
-  even_within true = omega arith
-  even_within false = omega arith
+  even_within : (scale : ℕ) (asks : Bool) → (if asks then scale * staffing_weight else 0) ≤ scale * most_dual_price
+  even_within scale true = omega arith
+  even_within scale false = omega arith
+
+  first_below : IsLowerBound c from given (first_bound c from given)
+  first_below = no_roster_below c from given 1 (first_dual_prices c 1) (omega arith) (λ d s k. even_within 1 (asks_for_nurses c d s k))
 
   first_bounds : IsBoundOfRound c from given 0 (first_bound c from given)
   first_bounds = record {
-    dual_prices = first_dual_prices c;
-    are_dual_prices = λ d s k. even_within (asks_for_nurses c d s k);
+    scale = 1;
+    some = omega arith;
+    dual_prices = first_dual_prices c 1;
+    are_dual_prices = λ d s k. even_within 1 (asks_for_nurses c d s k);
     bound_is = refl;
     first = λ e. refl;
   }
@@ -93,7 +100,7 @@ module _ (c : Meaning) (from : ℕ) (given : Rows) where
 
   -- the first round's bound is a lower bound, too
   first_within : fits_case c given ≡ true → keeps_hard c given ≡ true → first_bound c from given ≤ penalty c given
-  first_within fits keeps = bounds_below 0 (first_bound c from given) first_bounds given fits keeps (stays_self c from given)
+  first_within fits keeps = first_below given fits keeps (stays_self c from given)
 
   -- a round that didn't raise the lower bound
   same_log : (made best bound : ℕ) (lines : List BoundLine) → IsRoundsLog c from given made lines → best ≡ (last_line no_line lines).bound → bound ≤ best → IsBoundOfRound c from given made bound → IsRoundsLog c from given (made + 1) lines
@@ -120,7 +127,7 @@ module _ (c : Meaning) (from : ℕ) (given : Rows) where
       let within : (last_line no_line lines).round ≤ made = p.within in
       let below : IsLowerBound c from given bound = bounds_below made bound t in
       let above : first_bound c from given ≤ bound = no_less made best bound (λ some. omega (arith, p.first some, best_is)) more t in
-      let line : IsRoundBound c from given x = record { dual_prices = t.dual_prices; are_dual_prices = t.are_dual_prices; bound_is = t.bound_is; first = λ one. t.first (omega (arith, one)); no_less = above } in
+      let line : IsRoundBound c from given x = record { scale = t.scale; some = t.some; dual_prices = t.dual_prices; are_dual_prices = t.are_dual_prices; bound_is = t.bound_is; first = λ one. t.first (omega (arith, one)); no_less = above } in
       record {
         bounds = All-append (λ y. IsLowerBound c from given y.bound) lines (x ∷ []) p.bounds (All-cons (λ y. IsLowerBound c from given y.bound) x [] below (All-nil (λ y. IsLowerBound c from given y.bound)));
         each = All-append (IsRoundBound c from given) lines (x ∷ []) p.each (All-cons (IsRoundBound c from given) x [] line (All-nil (IsRoundBound c from given)));
@@ -151,22 +158,22 @@ pub record Going {W : Type 0} (contents : W → Option (List ℕ)) (c : Meaning)
   pub sends : Sends contents old mid 0 sent (bound_log_text c given lines)
   pub best_is : best ≡ (last_line no_line lines).bound
 
+-- the text with one more line
+first_line : Meaning → Rows → List ℕ
+first_line c given = line (start_word c) (penalty c given)
+
+pub text_more : (c : Meaning) (given : Rows) (xs : List BoundLine) (x : BoundLine) → bound_log_text c given xs ++ bound_line x ≡ bound_log_text c given (xs ++ x ∷ [])
+unfolding first_line
+text_more c given xs x =
+    append_assoc (first_line c given) (flat_map bound_line xs) (bound_line x)
+    ∙ ap (λ text. first_line c given ++ text) (ap (λ text. flat_map bound_line xs ++ text) (sym (append-nil (bound_line x))) ∙ sym (flat_map-append bound_line xs (x ∷ [])))
+
 module _ {W : Type 0} (contents : W → Option (List ℕ)) (c : Meaning) (from : ℕ) (given : Rows) (old : Watched W) where
-  first_line : List ℕ
-  first_line = line (start_word c) (penalty c given)
-
-  text_more : (xs : List BoundLine) (x : BoundLine) → bound_log_text c given xs ++ bound_line x ≡ bound_log_text c given (xs ++ x ∷ [])
-  unfolding first_line
-  text_more xs x =
-      append_assoc first_line (flat_map bound_line xs) (bound_line x)
-      ∙ ap (λ text. first_line ++ text) (ap (λ text. flat_map bound_line xs ++ text) (sym (append-nil (bound_line x))) ∙ sym (flat_map-append bound_line xs (x ∷ [])))
-
   pub Going-start : (new : Watched W) (sent : ℕ) → Sends contents old new 0 sent (bound_log_text c given []) → Going contents c from given old new 0 sent 0
   Going-start new sent p = record { lines = []; is_log = no_log c from given; sends = p; best_is = refl }
 
   -- the first line broke off, whatever would have come after it
   pub start_breaks : (rounds : ℕ) (new : Watched W) (fault : WriteFault) → BreaksIn contents old new 0 (bound_log_text c given []) fault → BoundLogStops contents c from given (rounds_alone rounds) old new (LogFailed (sent_of fault))
-  unfolding first_line
   start_breaks rounds new fault p =
       let some = some_log c from given (rounds_alone rounds) in
       record {
@@ -193,7 +200,7 @@ module _ {W : Type 0} (contents : W → Option (List ℕ)) (c : Meaning) (from :
       record {
         lines = p.lines ++ x ∷ [];
         is_log = more_log c from given made best bound p.lines p.is_log p.best_is more t;
-        sends = subst (Sends contents old new 0 after) (text_more p.lines x) (Sends-append contents old mid new 0 sent after (bound_log_text c given p.lines) (bound_line x) p.sends q);
+        sends = subst (Sends contents old new 0 after) (text_more c given p.lines x) (Sends-append contents old mid new 0 sent after (bound_log_text c given p.lines) (bound_line x) p.sends q);
         best_is = sym (ap (λ (y : BoundLine). y.bound) (last_is no_line p.lines x));
       }
 
@@ -209,7 +216,7 @@ module _ {W : Type 0} (contents : W → Option (List ℕ)) (c : Meaning) (from :
         is_log = bound_log c from given (rounds_alone rounds) (p.lines ++ x ∷ [])
             (later_log c from given (made + 1) rounds (p.lines ++ x ∷ []) (omega arith) (λ any. omega arith) (more_log c from given made best bound p.lines p.is_log p.best_is more t));
         sent = length (bound_log_text c given p.lines) + q.sent;
-        stops = subst (λ text. StopsAt contents old new text (length (bound_log_text c given p.lines) + q.sent)) (text_more p.lines x) (StopsAt-after contents old mid new (bound_log_text c given p.lines) (bound_line x) q.sent p.sends.writes q.stops);
+        stops = subst (λ text. StopsAt contents old new text (length (bound_log_text c given p.lines) + q.sent)) (text_more c given p.lines x) (StopsAt-after contents old mid new (bound_log_text c given p.lines) (bound_line x) q.sent p.sends.writes q.stops);
         counted = ap (λ f. LogFailed (sent_of f)) q.counted ∙ ap LogFailed count;
       }
 
@@ -218,6 +225,16 @@ module _ {W : Type 0} (contents : W → Option (List ℕ)) (c : Meaning) (from :
   Going-end rounds new made sent best p few all = record {
     lines = p.lines;
     is_log = bound_log c from given (rounds_alone rounds) p.lines (later_log c from given made rounds p.lines few (λ some. omega (arith, some, all)) p.is_log);
+    sends = p.sends;
+    bound_is = p.best_is;
+  }
+
+  -- no more rounds are made, though not all were
+  pub Going-barren : (rounds : ℕ) (new : Watched W) (made sent best : ℕ) → Going contents c from given old new made sent best → made ≤ rounds → 0 < made
+      → HasReached contents c from given (rounds_alone rounds) old new (record { bound = best; sent = sent })
+  Going-barren rounds new made sent best p few some = record {
+    lines = p.lines;
+    is_log = bound_log c from given (rounds_alone rounds) p.lines (later_log c from given made rounds p.lines few (λ any. some) p.is_log);
     sends = p.sends;
     bound_is = p.best_is;
   }
@@ -272,7 +289,7 @@ module _ {W : Type 0} (contents : W → Option (List ℕ)) (c : Meaning) (from :
       record {
         lines = p.lines ++ x ∷ [];
         is_log = branched_log rounds branched reached.bound bound p.lines p.is_log p.bound_is more below;
-        sends = subst (Sends contents old new 0 after) (text_more p.lines x) (Sends-append contents old mid new 0 reached.sent after (bound_log_text c given p.lines) (bound_line x) p.sends q);
+        sends = subst (Sends contents old new 0 after) (text_more c given p.lines x) (Sends-append contents old mid new 0 reached.sent after (bound_log_text c given p.lines) (bound_line x) p.sends q);
         bound_is = sym (ap (λ (y : BoundLine). y.bound) (last_is no_line p.lines x));
       }
 
@@ -288,6 +305,6 @@ module _ {W : Type 0} (contents : W → Option (List ℕ)) (c : Meaning) (from :
         lines = p.lines ++ x ∷ [];
         is_log = branched_log rounds branched reached.bound bound p.lines p.is_log p.bound_is more below;
         sent = length (bound_log_text c given p.lines) + q.sent;
-        stops = subst (λ text. StopsAt contents old new text (length (bound_log_text c given p.lines) + q.sent)) (text_more p.lines x) (StopsAt-after contents old mid new (bound_log_text c given p.lines) (bound_line x) q.sent p.sends.writes q.stops);
+        stops = subst (λ text. StopsAt contents old new text (length (bound_log_text c given p.lines) + q.sent)) (text_more c given p.lines x) (StopsAt-after contents old mid new (bound_log_text c given p.lines) (bound_line x) q.sent p.sends.writes q.stops);
         counted = ap (λ f. LogFailed (sent_of f)) q.counted ∙ ap LogFailed count;
       }

@@ -1,7 +1,10 @@
--- What the slots pay is what the nurses earn, so the least costs together are at most the penalty.
+-- What the slots pay is what the nurses earn, so the least costs together are at most the penalty, in parts of
+-- a point.
 use Rattle.std.proofs.Common.{◌≡◌, ◌+◌, ◌-◌, ◌*◌, ◌/◌, ◌%◌, ◌<◌, ◌≤◌, ◌&&◌, ◌==◌, ℕ, zero, suc, Bool, true, false, not, ap, arith, refl, [], length, nat_lt, mul-add, if◌then◌else◌}
 use Rattle.std.specs.List.{list_all}
 use Rattle.std.proofs.lemmas.Bool.{and_parts, eqb-true}
+use Rattle.std.proofs.Math.Nat.{suc-mul}
+use Rattle.std.proofs.lemmas.Nat.{div_below}
 use Rattle.roster_instance.specs.declared.choice.Choice.{Choice}
 use Rattle.roster_instance.specs.declared.choice.Choice.TheVariants.{Off, Work}
 use Rattle.roster_instance.specs.Choices.{days_of, same_choice, shift_of}
@@ -20,10 +23,10 @@ use Rattle.roster_laws.proofs.Below.{all_elim}
 use Rattle.roster_laws.proofs.Fives.{five_is}
 use Rattle.roster_laws.proofs.OneRow.{penalty-parts, requests_of_row}
 use Rattle.roster_slots.specs.Slots.{AreDualPrices, SlotPrices, choice_dual_price, most_dual_price, slot_bound, slots_bound}
-use Rattle.roster_prices.specs.LowerBounds.{IsLowerBound, bound_by, own_rows, price_by, rounded_up, row_cost_by, row_bound, lagrangian_with}
+use Rattle.roster_prices.specs.LowerBounds.{IsLowerBound, bound_by, in_points, own_rows, price_by, rounded_up, row_cost_by, row_bound, lagrangian_with}
 use Rattle.roster_prices.proofs.OwnRows.{among, two_rules}
 use Rattle.roster_bound.proofs.LeastCosts.{least_below, slot_least}
-use Rattle.roster_bound.proofs.Sums.{count_by_slot, over_slots, slots_both, slots_le, slots_none, sum_le, sum_of_one, sum_same_number}
+use Rattle.roster_bound.proofs.Sums.{count_by_slot, over_slots, slots_both, slots_le, slots_none, slots_times, sum_le, sum_of_one, sum_same_number, sum_times}
 
 -- ---- what one nurse earns
 
@@ -81,21 +84,23 @@ module _ (w : SlotPrices) where
 
 -- ---- by the dual prices a row costs what it costs, less what is earned
 
-prices_split : (n : ℕ) (p e q : ℕ → ℕ) → ((d : ℕ) → e d ≤ most_dual_price) → ((d : ℕ) → p d ≡ (most_dual_price - e d) + q d) → sum_below n p + sum_below n e ≡ sum_below n q + n * most_dual_price
-prices_split zero p e q within each = refl
-prices_split (suc n) p e q within each = omega (arith, prices_split n p e q within each, each n, within n)
+prices_split : (most n : ℕ) (p e q : ℕ → ℕ) → ((d : ℕ) → e d ≤ most) → ((d : ℕ) → p d ≡ (most - e d) + q d) → sum_below n p + sum_below n e ≡ sum_below n q + n * most
+prices_split most zero p e q within each = omega arith
+prices_split most (suc n) p e q within each = omega (arith, prices_split most n p e q within each, each n, within n, suc-mul n most)
 
-dual_price_within : (w : SlotPrices) → AreDualPrices w → (d : ℕ) (x : Choice) → choice_dual_price w d x ≤ most_dual_price
-dual_price_within w are d Off = omega arith
-dual_price_within w are d (Work s k) = are d s.0 k.0
+dual_price_within : (scale : ℕ) (w : SlotPrices) → AreDualPrices scale w → (d : ℕ) (x : Choice) → choice_dual_price w d x ≤ scale * most_dual_price
+dual_price_within scale w are d Off = omega arith
+dual_price_within scale w are d (Work s k) = are d s.0 k.0
 
-pub row_cost-choice_dual_price : (c : Meaning) (w : SlotPrices) → AreDualPrices w → (n : ℕ) (row : Row)
-    → row_cost_by c w n row + sum_below (length row) (λ d. choice_dual_price w d (choice_on row d)) ≡ nurse_cost c n (days_of row) + length row * most_dual_price
-row_cost-choice_dual_price c w are n row =
+pub row_cost-choice_dual_price : (c : Meaning) (scale : ℕ) (w : SlotPrices) → AreDualPrices scale w → (n : ℕ) (row : Row)
+    → row_cost_by c scale w n row + sum_below (length row) (λ d. choice_dual_price w d (choice_on row d)) ≡ scale * nurse_cost c n (days_of row) + length row * (scale * most_dual_price)
+row_cost-choice_dual_price c scale w are n row =
+    let asked : ℕ → ℕ = λ d. request_cost_on c n d (shift_of (choice_on row d)) in
     omega (
       arith,
-      prices_split (length row) (λ d. price_by c w n d (choice_on row d)) (λ d. choice_dual_price w d (choice_on row d)) (λ d. request_cost_on c n d (shift_of (choice_on row d))) (λ d. dual_price_within w are d (choice_on row d)) (λ d. refl),
-      requests_of_row c n row,
+      prices_split (scale * most_dual_price) (length row) (λ d. price_by c scale w n d (choice_on row d)) (λ d. choice_dual_price w d (choice_on row d)) (λ d. scale * asked d) (λ d. dual_price_within scale w are d (choice_on row d)) (λ d. refl),
+      sum_times scale (length row) asked (λ d. scale * asked d) (λ d. refl),
+      ap (λ k. scale * k) (requests_of_row c n row),
     )
 
 -- ---- a roster that keeps the hard rules
@@ -103,8 +108,14 @@ row_cost-choice_dual_price c w are n row =
 met : (have need : ℕ) → not (nat_lt have need) ≡ true → need ≤ have
 met have need e = grind (arith, e)
 
-put_together : (p f paid cost room staffing pen : ℕ) → p ≤ staffing + paid → f + paid ≤ cost + room → pen ≡ staffing + cost → (p + f) - room ≤ pen
-put_together p f paid cost room staffing pen h k e = omega arith
+put_together : (scale p f paid cost room staffing pen : ℕ) → p ≤ scale * staffing + paid → f + paid ≤ scale * cost + room → pen ≡ staffing + cost → (p + f) - room ≤ scale * pen
+put_together scale p f paid cost room staffing pen h k e = omega (arith, ap (λ all. scale * all) e)
+
+-- parts that are no more than some whole points are no more when they are rounded up
+points_below : (scale parts pen : ℕ) → 0 < scale → parts ≤ scale * pen → in_points scale parts ≤ pen
+points_below scale parts pen some low =
+    let below : in_points scale parts < pen + 1 = div_below (parts + (scale - 1)) scale (pen + 1) some (omega (arith, low, some)) in
+    omega arith
 
 -- a multiple of 5 that is not below a number isn't below the next multiple of 5 either
 five_below : (b pen : ℕ) → b ≤ pen → pen % 5 ≡ 0 → 5 * ((b + 4) / 5) ≤ pen
@@ -117,7 +128,7 @@ rounded_below c r b h = go (c.keep % 5 == 0) refl
     go true e = five_below b (penalty c r) h (five_is c (eqb-true (c.keep % 5) 0 e) r)
     go false e = h
 
-module _ (c : Meaning) (from : ℕ) (given : Rows) (w : SlotPrices) (are : AreDualPrices w) (r : Rows) (fits : fits_case c r ≡ true) (keeps : keeps_hard c r ≡ true) (stays : FrozenDaysStay c from given r) where
+module _ (c : Meaning) (from : ℕ) (given : Rows) (scale : ℕ) (some : 0 < scale) (w : SlotPrices) (are : AreDualPrices scale w) (r : Rows) (fits : fits_case c r ≡ true) (keeps : keeps_hard c r ≡ true) (stays : FrozenDaysStay c from given r) where
   nurses : length r ≡ nurse_count c
   nurses = eqb-true (length r) (nurse_count c) (and_parts (length r == nurse_count c) (list_all (is_row_of c) r) fits).0
 
@@ -128,56 +139,61 @@ module _ (c : Meaning) (from : ℕ) (given : Rows) (w : SlotPrices) (are : AreDu
       (all_elim (shift_count c) (λ s. all_below (skill_count c) (λ k. not (nat_lt (cover r d s k) (minimum c d s k)))) (all_elim (day_count c) (λ d. meets c d (cover r d)) (two_rules c r keeps).0 d hd) s hs) k hk)
 
   -- the slots: the penalty for missing nurses, and the pay
-  slots_below : slots_bound c w ≤ staffing_cost c r + over_slots (day_count c) (shift_count c) (skill_count c) (λ d s k. w d s k * cover r d s k)
+  slots_below : slots_bound c scale w ≤ scale * staffing_cost c r + over_slots (day_count c) (shift_count c) (skill_count c) (λ d s k. w d s k * cover r d s k)
   slots_below =
       let D = day_count c in
       let S = shift_count c in
       let K = skill_count c in
       let missing : ℕ → ℕ → ℕ → ℕ = λ d s k. staffing_weight * (optimum c d s k - cover r d s k) in
+      let in_parts : ℕ → ℕ → ℕ → ℕ = λ d s k. scale * missing d s k in
       let pay : ℕ → ℕ → ℕ → ℕ = λ d s k. w d s k * cover r d s k in
       omega (
         arith,
-        slots_le D S K (slot_bound c w) (λ d s k. missing d s k + pay d s k) (λ d s k hd hs hk. slot_least (w d s k) (minimum c d s k) (optimum c d s k) (cover r d s k) (minimum_met d s k hd hs hk)),
-        slots_both D S K (λ d s k. missing d s k + pay d s k) missing pay (λ d s k. refl),
+        slots_le D S K (slot_bound c scale w) (λ d s k. in_parts d s k + pay d s k)
+            (λ d s k hd hs hk. slot_least scale (w d s k) (minimum c d s k) (optimum c d s k) (cover r d s k) (minimum_met d s k hd hs hk)),
+        slots_both D S K (λ d s k. in_parts d s k + pay d s k) in_parts pay (λ d s k. refl),
+        slots_times D S K scale missing in_parts (λ d s k. refl),
       )
 
   -- whatever each nurse's row costs at least
-  module _ (bound : ℕ → ℕ) (least : (n : ℕ) → n < nurse_count c → bound n ≤ row_cost_by c w n (row_of r n)) where
-    row_below : (n : ℕ) → n < nurse_count c → bound n + row_dual_prices w (day_count c) (shift_count c) (skill_count c) r n ≤ nurse_cost c n (days_of_nurse r n) + day_count c * most_dual_price
+  module _ (bound : ℕ → ℕ) (least : (n : ℕ) → n < nurse_count c → bound n ≤ row_cost_by c scale w n (row_of r n)) where
+    row_below : (n : ℕ) → n < nurse_count c → bound n + row_dual_prices w (day_count c) (shift_count c) (skill_count c) r n ≤ scale * nurse_cost c n (days_of_nurse r n) + day_count c * (scale * most_dual_price)
     row_below n inside =
         let days : length (row_of r n) ≡ day_count c = row-length c r n fits inside in
         let earns : sum_below (length (row_of r n)) (λ d. choice_dual_price w d (choice_on (row_of r n) d)) ≡ sum_below (day_count c) (λ d. choice_dual_price w d (choice_on (row_of r n) d)) =
         ap (λ m. sum_below m (λ d. choice_dual_price w d (choice_on (row_of r n) d))) days in
-        let room : length (row_of r n) * most_dual_price ≡ day_count c * most_dual_price = ap (λ m. m * most_dual_price) days in
-        omega (arith, least n inside, row_cost-choice_dual_price c w are n (row_of r n), earns, room)
+        let room : length (row_of r n) * (scale * most_dual_price) ≡ day_count c * (scale * most_dual_price) = ap (λ m. m * (scale * most_dual_price)) days in
+        omega (arith, least n inside, row_cost-choice_dual_price c scale w are n (row_of r n), earns, room)
 
     rows_below : sum_below (nurse_count c) bound + sum_below (nurse_count c) (row_dual_prices w (day_count c) (shift_count c) (skill_count c) r)
-        ≤ sum_below (nurse_count c) (λ n. nurse_cost c n (days_of_nurse r n)) + nurse_count c * (day_count c * most_dual_price)
+        ≤ scale * sum_below (nurse_count c) (λ n. nurse_cost c n (days_of_nurse r n)) + nurse_count c * (day_count c * (scale * most_dual_price))
     rows_below =
         let N = nurse_count c in
         let earns = row_dual_prices w (day_count c) (shift_count c) (skill_count c) r in
-        let room : ℕ = day_count c * most_dual_price in
+        let cost : ℕ → ℕ = λ n. nurse_cost c n (days_of_nurse r n) in
+        let room : ℕ = day_count c * (scale * most_dual_price) in
         omega (
           arith,
           sum_both N bound earns,
-          sum_le N (λ n. bound n + earns n) (λ n. nurse_cost c n (days_of_nurse r n) + room) row_below,
-          sum_both N (λ n. nurse_cost c n (days_of_nurse r n)) (λ n. room),
+          sum_le N (λ n. bound n + earns n) (λ n. scale * cost n + room) row_below,
+          sum_both N (λ n. scale * cost n) (λ n. room),
+          sum_times scale N cost (λ n. scale * cost n) (λ n. refl),
           sum_same_number N room,
         )
 
-    together_below : lagrangian_with c w bound ≤ penalty c r
+    together_below : lagrangian_with c scale w bound ≤ scale * penalty c r
     together_below =
         let earns = row_dual_prices w (day_count c) (shift_count c) (skill_count c) r in
         let paid : over_slots (day_count c) (shift_count c) (skill_count c) (λ d s k. w d s k * cover r d s k) ≤ sum_below (nurse_count c) earns =
         omega (arith, paid_is_earned w (day_count c) (shift_count c) (skill_count c) r, ap (λ m. sum_below m earns) nurses) in
-        put_together (slots_bound c w) (sum_below (nurse_count c) bound) (sum_below (nurse_count c) earns) (sum_below (nurse_count c) (λ n. nurse_cost c n (days_of_nurse r n))) (nurse_count c * (day_count c * most_dual_price)) (staffing_cost c r) (penalty c r)
+        put_together scale (slots_bound c scale w) (sum_below (nurse_count c) bound) (sum_below (nurse_count c) earns) (sum_below (nurse_count c) (λ n. nurse_cost c n (days_of_nurse r n))) (nurse_count c * (day_count c * (scale * most_dual_price))) (staffing_cost c r) (penalty c r)
         (omega (arith, slots_below, paid)) rows_below (penalty-parts c r)
 
-    pub below : rounded_up c (lagrangian_with c w bound) ≤ penalty c r
-    below = rounded_below c r (lagrangian_with c w bound) together_below
+    pub below : rounded_up c (in_points scale (lagrangian_with c scale w bound)) ≤ penalty c r
+    below = rounded_below c r (in_points scale (lagrangian_with c scale w bound)) (points_below scale (lagrangian_with c scale w bound) (penalty c r) some together_below)
 
-pub no_roster_below : (c : Meaning) (from : ℕ) (given : Rows) (w : SlotPrices) → AreDualPrices w → IsLowerBound c from given (bound_by c from given w)
+pub no_roster_below : (c : Meaning) (from : ℕ) (given : Rows) (scale : ℕ) (w : SlotPrices) → 0 < scale → AreDualPrices scale w → IsLowerBound c from given (bound_by c from given scale w)
 unfolding bound_by
-no_roster_below c from given w are r fits keeps stays =
-    below c from given w are r fits keeps stays (row_bound c from given w)
-    (λ n inside. least_below (row_cost_by c w n) (own_rows c from given n) (row_of r n) (among c from given r fits keeps stays n inside))
+no_roster_below c from given scale w some are r fits keeps stays =
+    below c from given scale some w are r fits keeps stays (row_bound c from given scale w)
+    (λ n inside. least_below (row_cost_by c scale w n) (own_rows c from given n) (row_of r n) (among c from given r fits keeps stays n inside))

@@ -12,23 +12,27 @@ use Rattle.roster_rules.specs.Weights.{staffing_weight}
 -- ---- a slot: between the minimum m and the optimum o each further nurse z adds the pay and takes off one
 -- weight, and above the optimum she adds the pay
 
-pub slot_least : (g m o z : ℕ) → m ≤ z → min (staffing_weight * (o - m) + g * m) (staffing_weight * (o - max m o) + g * max m o) ≤ staffing_weight * (o - z) + g * z
-slot_least g m o z h = go (cases_lt z o) (cases_lt staffing_weight g)
+least_by_weight : (u g m o z : ℕ) → m ≤ z → min (u * (o - m) + g * m) (u * (o - max m o) + g * max m o) ≤ u * (o - z) + g * z
+least_by_weight u g m o z h = go (cases_lt z o) (cases_lt u g)
   where
-    most : ℕ
-    most = max m o
+    none : u * (o - max m o) ≡ u * 0
+    none = ap (λ k. u * k) (omega arith)
 
-    go : (z < o) ⊎ (o ≤ z) → (staffing_weight < g) ⊎ (g ≤ staffing_weight) → min (staffing_weight * (o - m) + g * m) (staffing_weight * (o - max m o) + g * max m o) ≤ staffing_weight * (o - z) + g * z
+    go : (z < o) ⊎ (o ≤ z) → (u < g) ⊎ (g ≤ u) → min (u * (o - m) + g * m) (u * (o - max m o) + g * max m o) ≤ u * (o - z) + g * z
     go (inr above) dear =
         let few : max m o ≤ z = omega arith in
-        omega (arith, mul-le-mul_left g few)
+        omega (arith, none, mul-le-mul_left g few)
     go (inl below) (inl dear) =
         let grown : z ≡ m + (z - m) = omega arith in
-        let dearer : staffing_weight ≤ g = omega arith in
-        omega (arith, ap (λ k. g * k) grown, mul-add g m (z - m), mul-le-mul_right (z - m) dearer)
+        let apart : o - m ≡ (o - z) + (z - m) = omega arith in
+        let dearer : u ≤ g = omega arith in
+        omega (arith, ap (λ k. g * k) grown, mul-add g m (z - m), ap (λ k. u * k) apart, mul-add u (o - z) (z - m), mul-le-mul_right (z - m) dearer)
     go (inl below) (inr cheap) =
         let grown : max m o ≡ z + (o - z) = omega arith in
-        omega (arith, ap (λ k. g * k) grown, mul-add g z (o - z), mul-le-mul_right (o - z) cheap)
+        omega (arith, none, ap (λ k. g * k) grown, mul-add g z (o - z), mul-le-mul_right (o - z) cheap)
+
+pub slot_least : (scale g m o z : ℕ) → m ≤ z → min (scale * (staffing_weight * (o - m)) + g * m) (scale * (staffing_weight * (o - max m o)) + g * max m o) ≤ scale * (staffing_weight * (o - z)) + g * z
+slot_least scale g m o z h = omega (arith, least_by_weight (scale * staffing_weight) g m o z h)
 
 -- ---- a list: no member costs less than the first of the cheapest
 

@@ -5,4 +5,6 @@ pub mod NodeBounds
 pub mod NodeLaws
 pub mod Counted
 pub mod SameBounds
+pub mod WholePoints
 pub mod BoundLogLaws
+pub mod RoundLaws

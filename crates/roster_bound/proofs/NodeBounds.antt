@@ -1,13 +1,13 @@
 -- A lower bound for the rosters of a node: by the node's prices a row of such a roster costs no more, since
 -- it goes against no decision.
-use Rattle.std.proofs.Common.{◌≡◌, ◌∙◌, ◌+◌, ◌≤◌, ◌==◌, ◌&&◌, ◌||◌, ℕ, Bool, true, false, not, ap, refl, subst, sym, List, [], ◌∷◌, length, if◌then◌else◌}
+use Rattle.std.proofs.Common.{◌≡◌, ◌∙◌, ◌+◌, ◌*◌, ◌<◌, ◌≤◌, ◌==◌, ◌&&◌, ◌||◌, ℕ, Bool, true, false, not, ap, refl, subst, sym, List, [], ◌∷◌, length, if◌then◌else◌}
 use Rattle.std.proofs.lemmas.Bool.{and_parts, eqb-true}
 use Rattle.roster_instance.specs.Choices.{days_of}
 use Rattle.roster_instance.specs.Meaning.{Meaning}
 use Rattle.roster_instance.specs.Rosters.{Row, Rows, choice_on, row_of}
 use Rattle.roster_rules.specs.Penalties.{own_cost}
 use Rattle.roster_rules.proofs.RunSums.{sum_same}
-use Rattle.roster_offers.specs.Offers.{row_cost_at}
+use Rattle.roster_offers.specs.Offers.{row_cost_in}
 use Rattle.roster_prices.specs.declared.decisions.Decision.{Decision}
 use Rattle.roster_prices.specs.Nodes.{IsLowerBoundIn, against_price, bound_in, is_against, is_as_decided, is_in_node, price_in, row_bound_in}
 use Rattle.roster_slots.specs.Slots.{AreDualPrices, SlotPrices}
@@ -41,26 +41,26 @@ none_against (x ∷ xs) r n d kept =
     go false true e f = f
     go true b e f = e
 
-module _ (c : Meaning) (w : SlotPrices) (node : List Decision) where
-  price_kept : (r : Rows) (n d : ℕ) → is_in_node node r ≡ true → price_in c w node n d (choice_on (row_of r n) d) ≡ price_by c w n d (choice_on (row_of r n) d)
+module _ (c : Meaning) (scale : ℕ) (w : SlotPrices) (node : List Decision) where
+  price_kept : (r : Rows) (n d : ℕ) → is_in_node node r ≡ true → price_in c scale w node n d (choice_on (row_of r n) d) ≡ price_by c scale w n d (choice_on (row_of r n) d)
   price_kept r n d kept =
-      let p : ℕ = price_by c w n d (choice_on (row_of r n) d) in
-      ap (λ b. if b then against_price + p else p) (none_against node r n d kept)
+      let p : ℕ = price_by c scale w n d (choice_on (row_of r n) d) in
+      ap (λ b. if b then against_price scale + p else p) (none_against node r n d kept)
 
-  pub cost_kept : (r : Rows) (n : ℕ) → is_in_node node r ≡ true → row_cost_at c n (price_in c w node n) (row_of r n) ≡ row_cost_by c w n (row_of r n)
+  pub cost_kept : (r : Rows) (n : ℕ) → is_in_node node r ≡ true → row_cost_in c n scale (price_in c scale w node n) (row_of r n) ≡ row_cost_by c scale w n (row_of r n)
   cost_kept r n kept =
       let row : Row = row_of r n in
-      ap (λ m. own_cost c n (days_of row) + m) (sum_same (length row) (λ d. price_in c w node n d (choice_on row d)) (λ d. price_by c w n d (choice_on row d)) (λ d inside. price_kept r n d kept))
+      ap (λ m. scale * own_cost c n (days_of row) + m) (sum_same (length row) (λ d. price_in c scale w node n d (choice_on row d)) (λ d. price_by c scale w n d (choice_on row d)) (λ d inside. price_kept r n d kept))
 
   -- no roster of the node costs less than the bound
-  pub none_below_in : (from : ℕ) (given : Rows) → AreDualPrices w → IsLowerBoundIn c from given node (bound_in c from given w node)
+  pub none_below_in : (from : ℕ) (given : Rows) → 0 < scale → AreDualPrices scale w → IsLowerBoundIn c from given node (bound_in c from given scale w node)
   unfolding bound_in
-  none_below_in from given are r fits keeps stays kept =
-      below c from given w are r fits keeps stays (row_bound_in c from given w node)
-      (λ n inside. subst (λ m. row_bound_in c from given w node n ≤ m) (cost_kept r n kept)
-      (least_below (row_cost_at c n (price_in c w node n)) (own_rows c from given n) (row_of r n) (among c from given r fits keeps stays n inside)))
+  none_below_in from given some are r fits keeps stays kept =
+      below c from given scale some w are r fits keeps stays (row_bound_in c from given scale w node)
+      (λ n inside. subst (λ m. row_bound_in c from given scale w node n ≤ m) (cost_kept r n kept)
+      (least_below (row_cost_in c n scale (price_in c scale w node n)) (own_rows c from given n) (row_of r n) (among c from given r fits keeps stays n inside)))
 
 -- the node without decisions
-pub bound_of_root : (c : Meaning) (from : ℕ) (given : Rows) (w : SlotPrices) → bound_in c from given w [] ≡ bound_by c from given w
+pub bound_of_root : (c : Meaning) (from : ℕ) (given : Rows) (scale : ℕ) (w : SlotPrices) → bound_in c from given scale w [] ≡ bound_by c from given scale w
 unfolding bound_in bound_by
-bound_of_root c from given w = refl
+bound_of_root c from given scale w = refl

@@ -118,6 +118,35 @@ module _ (c : Meaning) (from : ℕ) (given : Rows) where
       bounds = All-set HasBound (nodes ++ without ∷ []) at with bound_with (All-push HasBound nodes without are.bounds bound_without);
     }
 
+  -- after a node got a greater lower bound
+  module _ (nodes : List Node) (at : ℕ) (node raised : Node) (are : AreNodesOf c from given nodes) (inside : at < length nodes) (reads : node ≡ get_or nodes at node) (same : raised.decisions ≡ node.decisions) where
+    module _ (r : Rows) where
+      abbrev In : Node → Bool
+      In p = is_in_node p.decisions.items r
+
+      raised_here : In node ≡ true → list_any In (set nodes at raised) ≡ true
+      raised_here e =
+          list_any_at In (set nodes at raised) at raised (omega (arith, length-set nodes at raised, inside))
+          (ap In (get_or-set_same nodes at raised raised inside) ∙ ap (λ (ds : ArrayVec Decision). is_in_node ds.items r) same ∙ e)
+
+      still_here : (k : ℕ) (p : Node) → k < length nodes → (k ≡ at → ⊥) → get_or nodes k p ≡ p → In p ≡ true → list_any In (set nodes at raised) ≡ true
+      still_here k p within other is e =
+          list_any_at In (set nodes at raised) k p (omega (arith, length-set nodes at raised, within)) (ap In (get_or-set_other nodes at k raised p other ∙ is) ∙ e)
+
+      all_raised : list_any In (set nodes at raised) ≡ true
+      all_raised =
+          let any = Any-from_list_any In nodes (are.all r) in
+          elim (cases_eq any.0 at) [
+            | inl here ↦ raised_here (ap In (reads ∙ get_or_default nodes at node any.1 inside ∙ ap (λ k. get_or nodes k any.1) (sym here) ∙ any.3) ∙ any.4)
+            | inr other ↦ still_here any.0 any.1 any.2 other any.3 any.4
+          ]
+
+    pub raised_nodes : HasBound raised → AreNodesOf c from given (set nodes at raised)
+    raised_nodes bound = record { all = all_raised; bounds = All-set HasBound nodes at raised bound are.bounds }
+
+  pub bound_at : (nodes : List Node) (at : ℕ) (node : Node) → AreNodesOf c from given nodes → at < length nodes → node ≡ get_or nodes at node → HasBound node
+  bound_at nodes at node are inside reads = subst HasBound (sym reads) (All-get_or HasBound nodes at node inside are.bounds)
+
   -- ---- both children of a node have its lower bound
 
   left : (a b : Bool) → (a && b) ≡ true → a ≡ true
@@ -135,5 +164,5 @@ module _ (c : Meaning) (from : ℕ) (given : Rows) where
 
   pub child_bounds : (nodes : List Node) (at : ℕ) (node one other : Node) → AreNodesOf c from given nodes → at < length nodes → node ≡ get_or nodes at node → AreChildrenOf node one other → HasBound one × HasBound other
   child_bounds nodes at node one other are inside reads two =
-      let has : HasBound node = subst HasBound (sym reads) (All-get_or HasBound nodes at node inside are.bounds) in
+      let has : HasBound node = bound_at nodes at node are inside reads in
       (one_bound node one two.decision two.with_is two.with_bound has, one_bound node other (other_way two.decision) two.without_is two.without_bound has)

@@ -16,6 +16,11 @@ pub sum_same_number : (n m : ℕ) → sum_below n (λ k. m) ≡ n * m
 sum_same_number zero m = omega arith
 sum_same_number (suc n) m = omega (arith, sum_same_number n m, suc-mul n m)
 
+-- a sum of numbers that are as many times as much
+pub sum_times : (scale n : ℕ) (f g : ℕ → ℕ) → ((k : ℕ) → g k ≡ scale * f k) → sum_below n g ≡ scale * sum_below n f
+sum_times scale zero f g each = omega arith
+sum_times scale (suc n) f g each = omega (arith, sum_times scale n f g each, each n)
+
 -- a sum in which at most one number counts
 pub sum_of_one : (n t : ℕ) (f : ℕ → ℕ) → sum_below n (λ s. if t == s then f s else 0) ≤ f t
 sum_of_one zero t f = omega arith
@@ -59,6 +64,12 @@ module _ (days shifts skills : ℕ) where
       let of_shift : (ℕ → ℕ → ℕ → ℕ) → ℕ → ℕ → ℕ = λ e d s. sum_below skills (e d s) in
       let of_day : (ℕ → ℕ → ℕ → ℕ) → ℕ → ℕ = λ e d. sum_below shifts (of_shift e d) in
       sum_of_sums days (of_day f) (of_day g) (of_day h) (λ d. sum_of_sums shifts (of_shift f d) (of_shift g d) (of_shift h d) (λ s. sum_of_sums skills (f d s) (g d s) (h d s) (each d s)))
+
+  pub slots_times : (scale : ℕ) (f g : ℕ → ℕ → ℕ → ℕ) → ((d s k : ℕ) → g d s k ≡ scale * f d s k) → over_slots days shifts skills g ≡ scale * over_slots days shifts skills f
+  slots_times scale f g each =
+      let of_shift : (ℕ → ℕ → ℕ → ℕ) → ℕ → ℕ → ℕ = λ e d s. sum_below skills (e d s) in
+      let of_day : (ℕ → ℕ → ℕ → ℕ) → ℕ → ℕ = λ e d. sum_below shifts (of_shift e d) in
+      sum_times scale days (of_day f) (of_day g) (λ d. sum_times scale shifts (of_shift f d) (of_shift g d) (λ s. sum_times scale skills (f d s) (g d s) (each d s)))
 
   pub slots_none : (f : ℕ → ℕ → ℕ → ℕ) → ((d s k : ℕ) → f d s k ≡ 0) → over_slots days shifts skills f ≡ 0
   slots_none f none =

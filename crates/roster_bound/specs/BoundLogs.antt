@@ -32,12 +32,14 @@ abbrev pub Rises : BoundLine → List BoundLine → Type 0
 Rises before [] = Unit {0}
 Rises before (x ∷ xs) = (before.round < x.round) × (before.bound < x.bound) × Rises x xs
 
--- a round's bound: that of some dual prices, which are stated for the first round alone; and no less than the
--- first round's
+-- a round's bound: that of some dual prices at a scale, which are stated for the first round alone; and no
+-- less than the first round's
 pub record IsRoundBound (c : Meaning) (from : ℕ) (given : Rows) (x : BoundLine) : Type 0 where
+  pub scale : ℕ
+  pub some : 0 < scale
   pub dual_prices : SlotPrices
-  pub are_dual_prices : AreDualPrices dual_prices
-  pub bound_is : x.bound ≡ bound_by c from given dual_prices
+  pub are_dual_prices : AreDualPrices scale dual_prices
+  pub bound_is : x.bound ≡ bound_by c from given scale dual_prices
   pub first : x.round ≡ 1 → x.bound ≡ first_bound c from given
   pub no_less : first_bound c from given ≤ x.bound
 

@@ -1,2 +1,3 @@
 pub mod Branching
+pub mod Rounds
 pub mod BoundLogs

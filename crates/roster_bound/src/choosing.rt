@@ -8,11 +8,11 @@ ghost use Rattle.roster_slots.specs.ColumnPool.{FitsPool};
 ghost use Rattle.roster_prices.specs.Workspaces.{FitsBound};
 
 use crate::nodes::{Children, Node};
-use crate::pooled::move_by_pooled_rows;
+use crate::pooled::move_in_node;
 use arrayvec::ArrayVec;
 use roster_instance::{Case, Choice, Shift, Skill};
 use roster_offers::SearchesRows;
-use roster_prices::{BoundWorkspace, Decision};
+use roster_prices::{BoundWorkspace, Decision, value_by_pooled_rows};
 use roster_slots::{ColumnPool, FINE_PER_POINT, OFF_SLOT, ROWS_PER_NURSE};
 
 /// A branching decision, and how many uses a nurse's rows have with it or without it, whichever is less.
@@ -32,10 +32,10 @@ struct DaySlot {
 /// How many decisions are tried at most.
 const TRIED: usize = 40;
 
-/// How many subgradient steps are made before decisions are looked for, and in a trial of one.
-const STEPS_BEFORE: u16 = 300;
+/// For how many rounds subgradient steps are made before decisions are looked for, and in a trial of one.
+const ROUNDS_BEFORE: u16 = 6;
 
-const STEPS_IN_TRIAL: u16 = 100;
+const ROUNDS_IN_TRIAL: u16 = 2;
 
 /// The gain of a child counts up to ten points, so that a decision isn't preferred for leaving hardly a
 /// roster in it. A hundredth of a point is added, so that a child without any gain doesn't make all decisions
@@ -46,10 +46,12 @@ const LEAST_GAIN: u64 = FINE_PER_POINT as u64 / 100;
 
 /// The children of a node by the decision that promises most by the pooled rows: of those that split the uses
 /// of a nurse's rows most evenly, the one for which the product of the children's gains is greatest. None if
-/// each nurse has but one row, or if the node can take no more decisions.
+/// each nurse uses but one row, or if the node can take no more decisions. Values above the cap aren't aimed
+/// at.
 pub(crate) fn choose<T: SearchesRows>(
     case: &Case,
     node: &Node,
+    cap: u64,
     bounds: &mut BoundWorkspace<T>,
     uses: &mut [u32],
 ) -> Option<Children>
@@ -58,22 +60,19 @@ pub(crate) fn choose<T: SearchesRows>(
     ensures fits { FitsBound case.now bounds.new }
 {
     let decisions = node.decisions.as_slice();
-    move_by_pooled_rows(case, decisions, STEPS_BEFORE, bounds, uses);
+    move_in_node(case, decisions, cap, ROUNDS_BEFORE, bounds, uses);
     let tried = candidates(case, &bounds.pool, uses);
     bounds.set_dual_prices_aside(case);
-    let now = move_by_pooled_rows(case, decisions, 1, bounds, &mut []);
+    let now = value_by_pooled_rows(case, decisions, bounds, &mut []);
     let mut chosen = None;
     let mut most = 0;
     for candidate in tried.as_slice() {
         let Some(two) = node.branched_by(candidate.decision) else {
             return None;
         };
-        let score = gain_of(case, &two.with, now, bounds).saturating_mul(gain_of(
-            case,
-            &two.without,
-            now,
-            bounds,
-        ));
+        let with = gain_of(case, &two.with, cap, now, bounds);
+        let without = gain_of(case, &two.without, cap, now, bounds);
+        let score = with.saturating_mul(without);
         if score <= most {
             continue;
         }
@@ -84,11 +83,12 @@ pub(crate) fn choose<T: SearchesRows>(
     chosen
 }
 
-/// By how much the bound that the pooled rows give is greater in a child, by subgradient steps from the dual
-/// prices that were set aside.
+/// By how much the value of the pooled rows is greater in a child, by subgradient steps from the dual prices
+/// that were set aside.
 fn gain_of<T: SearchesRows>(
     case: &Case,
     node: &Node,
+    cap: u64,
     now: u64,
     bounds: &mut BoundWorkspace<T>,
 ) -> u64
@@ -97,8 +97,8 @@ fn gain_of<T: SearchesRows>(
 {
     bounds.take_dual_prices_back(case);
     let decisions = node.decisions.as_slice();
-    let bound = move_by_pooled_rows(case, decisions, STEPS_IN_TRIAL, bounds, &mut []);
-    bound.saturating_sub(now).min(MOST_GAIN) + LEAST_GAIN
+    let value = move_in_node(case, decisions, cap, ROUNDS_IN_TRIAL, bounds, &mut []);
+    value.saturating_sub(now).min(MOST_GAIN) + LEAST_GAIN
 }
 
 /// The decisions, one of each nurse and day, that split the uses of the nurses' rows most evenly.

@@ -25,6 +25,7 @@ pub use bounds::lower_bound;
 pub use effort::{Effort, Reached};
 pub use laws::{
     bounds_are_rounded_up, met_bound_is_least, no_roster_is_below_the_bound, nodes_cover_all,
+    whole_points_have_one_bound,
 };
 pub use rounds::raise_bound;
 pub use tree::BoundSpace;

@@ -1,25 +1,25 @@
 //! Rounds that raise a lower bound.
 
-ghost use Rattle.std.specs.Prelude.{◌≡◌, ◌+◌, ◌*◌, ◌<◌, ◌≤◌, IfErr, IfOk};
+ghost use Rattle.std.specs.Prelude.{◌≡◌, ◌+◌, ◌-◌, ◌*◌, ◌<◌, ◌≤◌, IfErr, IfOk, if◌then◌else◌, max, nat_lt};
 ghost use Rattle.roster_bundle.specs.Limits.{greatest_u64};
-ghost use Rattle.roster_instance.specs.Meaning.{day_count, nurse_count};
+ghost use Rattle.roster_instance.specs.Meaning.{nurse_count};
 ghost use Rattle.roster_rules.specs.Penalties.{penalty};
 ghost use Rattle.roster_laws.specs.Greatest.{extensions_in, greatest_extension_count};
 ghost use Rattle.roster_bound.specs.BoundLogs.{BoundLogStops, HasReached, RaisesBound, rounds_alone, rounds_of};
+ghost use Rattle.roster_bound.specs.Rounds.{AreDone, most_barren, sum_by};
 ghost use Rattle.roster_slots.specs.Tables.{slot_prices};
 ghost use Rattle.roster_slots.specs.Slots.{AreDualPrices};
 ghost use Rattle.roster_prices.specs.Workspaces.{CountsRound, FitsBound};
 ghost use Rattle.roster_prices.specs.LowerBounds.{IsLowerBound, bound_by};
 
-use crate::bounds::lower_bound;
+use crate::bounds::{bound_of_sum, sum_in};
 use crate::effort::{Effort, Reached};
 use crate::tree::{BoundSpace, branch_least};
 use crate::upper::UpperBound;
 use roster_case::Held;
 use roster_offers::SearchesRows;
-use roster_prices::{Base, BoundWorkspace, STEPS_PER_ROUND, Terms, prepare_next};
+use roster_prices::{Base, BoundWorkspace, Terms, prepare_next};
 use roster_reports::{LogFault, log_round, log_start};
-use roster_slots::StepSchedule;
 use roster_state::Meter;
 use roster_text::Watch;
 use std::io::Write;
@@ -27,9 +27,11 @@ use std::io::Write;
 /// Raises a lower bound on the penalty of every roster of a case that keeps the hard rules and has the held
 /// one's frozen days, if the weeks before `from` are frozen. It makes the given number of rounds, each by
 /// other dual prices, and then of branchings, or fewer if the lower bound comes to be what the held roster
-/// costs, since none is greater. The log gets the penalty of the held roster, and then each round in which
-/// the lower bound rose, as it comes; branchings are numbered as rounds after these. Returns the last of
-/// these lower bounds, or 0 if there was none: it is no less than the first round's. It takes no memory.
+/// costs, since none is greater. It makes fewer rounds, too, if thirty in a row are barren: each of these
+/// raises what slots and nurses cost at least together by less than a quarter of a point above the greatest
+/// sum before. The log gets the penalty of the held roster, and then each round in which the lower bound
+/// rose, as it comes; branchings are numbered as rounds after these. Returns the last of these lower bounds,
+/// or 0 if there was none: it is no less than the first round's. It takes no memory.
 ///
 /// # Errors
 ///
@@ -51,10 +53,11 @@ pub fn raise_bound<W: Write, T: SearchesRows>(
     ensures below { IfOk result (IsLowerBound held.now.case from held.now.roster) }
     ensures within { IfOk result (λ bound. bound ≤ penalty held.now.case held.now.roster) }
 
-    // A round is left out only if the lower bound is what the roster costs.
+    // A round is left out only if the lower bound is what the roster costs, or if the last thirty rounds were
+    // barren, and the log shows no other rounds.
     ensures made { IfOk result (λ bound. bound < penalty held.now.case held.now.roster →
-        meter.old + effort.rounds * (nurse_count held.now.case * day_count held.now.case)
-        ≤ meter.new) }
+        AreDone W.contents held.now.case from held.now.roster effort.rounds
+        meter.old meter.new log.old log.new) }
     ensures counted { meter.new ≤ meter.old + extensions_in held.now.case (rounds_of effort) }
     ensures fits { FitsBound held.now.case space.new.bounds }
 {
@@ -69,38 +72,38 @@ pub fn raise_bound<W: Write, T: SearchesRows>(
 
 /// The same for a roster that keeps the hard rules.
 fn raise_below<W: Write, T: SearchesRows>(
-    upper: &UpperBound<'_>,
+    top: &UpperBound<'_>,
     effort: Effort,
     space: &mut BoundSpace<T>,
     meter: &mut Meter,
     log: &mut Watch<W>,
 ) -> Result<u64, LogFault>
-    requires fits { FitsBound upper.now.base.now.case.now space.old.bounds }
-    requires room { meter.old + extensions_in upper.now.base.now.case.now (rounds_of effort)
+    requires fits { FitsBound top.now.base.now.case.now space.old.bounds }
+    requires room { meter.old + extensions_in top.now.base.now.case.now (rounds_of effort)
         ≤ greatest_u64 }
-    ensures ok { IfOk result (RaisesBound W.contents upper.now.base.now.case.now
-        upper.now.base.now.from upper.now.base.now.given.now effort log.old log.new) }
-    ensures err { IfErr result (BoundLogStops W.contents upper.now.base.now.case.now
-        upper.now.base.now.from upper.now.base.now.given.now effort log.old log.new) }
-    ensures below { IfOk result (IsLowerBound upper.now.base.now.case.now upper.now.base.now.from
-        upper.now.base.now.given.now) }
-    ensures within { IfOk result (λ bound. bound ≤ upper.now.total) }
-    ensures made { IfOk result (λ bound. bound < upper.now.total →
-        meter.old + effort.rounds * (nurse_count upper.now.base.now.case.now
-        * day_count upper.now.base.now.case.now) ≤ meter.new) }
-    ensures counted { meter.new ≤ meter.old + extensions_in upper.now.base.now.case.now
+    ensures ok { IfOk result (RaisesBound W.contents top.now.base.now.case.now
+        top.now.base.now.from top.now.base.now.given.now effort log.old log.new) }
+    ensures err { IfErr result (BoundLogStops W.contents top.now.base.now.case.now
+        top.now.base.now.from top.now.base.now.given.now effort log.old log.new) }
+    ensures below { IfOk result (IsLowerBound top.now.base.now.case.now top.now.base.now.from
+        top.now.base.now.given.now) }
+    ensures within { IfOk result (λ bound. bound ≤ top.now.total) }
+    ensures made { IfOk result (λ b. b < top.now.total → AreDone W.contents
+        top.now.base.now.case.now top.now.base.now.from top.now.base.now.given.now
+        effort.rounds meter.old meter.new log.old log.new) }
+    ensures counted { meter.new ≤ meter.old + extensions_in top.now.base.now.case.now
         (rounds_of effort) }
-    ensures fits { FitsBound upper.now.base.now.case.now space.new.bounds }
+    ensures fits { FitsBound top.now.base.now.case.now space.new.bounds }
 {
-    let mut reached = make_rounds(upper, effort.rounds, &mut space.bounds, meter, log)?;
+    let mut reached = make_rounds(top, effort.rounds, &mut space.bounds, meter, log)?;
     if !space.nodes.begin(reached.bound) {
         return Ok(reached.bound);
     }
     for branched in 0..effort.nodes {
-        if reached.bound >= upper.total {
+        if reached.bound >= top.total {
             return Ok(reached.bound);
         }
-        let is_branched = branch_least(upper, space, meter);
+        let is_branched = branch_least(top, space, meter);
         if !is_branched {
             return Ok(reached.bound);
         }
@@ -117,85 +120,122 @@ fn raise_below<W: Write, T: SearchesRows>(
 
 /// The rounds alone.
 fn make_rounds<W: Write, T: SearchesRows>(
-    upper: &UpperBound<'_>,
+    top: &UpperBound<'_>,
     rounds: u16,
     workspace: &mut BoundWorkspace<T>,
     meter: &mut Meter,
     log: &mut Watch<W>,
 ) -> Result<Reached, LogFault>
-    requires fits { FitsBound upper.now.base.now.case.now workspace.old }
-    requires room { meter.old + extensions_in upper.now.base.now.case.now rounds ≤ greatest_u64 }
-    ensures ok { IfOk result (HasReached W.contents upper.now.base.now.case.now
-        upper.now.base.now.from upper.now.base.now.given.now (rounds_alone rounds) log.old
+    requires fits { FitsBound top.now.base.now.case.now workspace.old }
+    requires room { meter.old + extensions_in top.now.base.now.case.now rounds ≤ greatest_u64 }
+    ensures ok { IfOk result (HasReached W.contents top.now.base.now.case.now
+        top.now.base.now.from top.now.base.now.given.now (rounds_alone rounds) log.old
         log.new) }
-    ensures err { IfErr result (BoundLogStops W.contents upper.now.base.now.case.now
-        upper.now.base.now.from upper.now.base.now.given.now (rounds_alone rounds) log.old
+    ensures err { IfErr result (BoundLogStops W.contents top.now.base.now.case.now
+        top.now.base.now.from top.now.base.now.given.now (rounds_alone rounds) log.old
         log.new) }
-    ensures below { IfOk result (λ reached. IsLowerBound upper.now.base.now.case.now
-        upper.now.base.now.from upper.now.base.now.given.now reached.bound) }
-    ensures made { IfOk result (λ reached. reached.bound < upper.now.total →
-        meter.old + rounds * (nurse_count upper.now.base.now.case.now
-        * day_count upper.now.base.now.case.now) ≤ meter.new) }
-    ensures counted { meter.new ≤ meter.old + extensions_in upper.now.base.now.case.now rounds }
-    ensures fits { FitsBound upper.now.base.now.case.now workspace.new }
+    ensures below { IfOk result (λ reached. IsLowerBound top.now.base.now.case.now
+        top.now.base.now.from top.now.base.now.given.now reached.bound) }
+    ensures made { IfOk result (λ r. r.bound < top.now.total → AreDone W.contents
+        top.now.base.now.case.now top.now.base.now.from top.now.base.now.given.now
+        rounds meter.old meter.new log.old log.new) }
+    ensures counted { meter.new ≤ meter.old + extensions_in top.now.base.now.case.now rounds }
+    ensures fits { FitsBound top.now.base.now.case.now workspace.new }
 {
-    let base = upper.base;
-    let schedule = StepSchedule {
-        rounds,
-        steps: STEPS_PER_ROUND,
-    };
+    let base = top.base;
     workspace.begin(base.case);
     let mut best = 0;
-    let mut sent = log_start(log, 0, base.case, upper.total)?;
+    let mut gains = Gains { top: 0, barren: 0 };
+    let mut sent = log_start(log, 0, base.case, top.total)?;
     for rounds_before in 0..rounds {
-        if best >= upper.total {
+        if best >= top.total {
             return Ok(Reached { bound: best, sent });
         }
-        let bound = make_round(base, workspace, meter);
-        prepare_next(
-            base.case,
-            rounds_before,
-            schedule,
-            is_late(rounds_before, rounds),
-            workspace,
-        );
-        if bound <= best {
+        if gains.barren >= MOST_BARREN {
+            return Ok(Reached { bound: best, sent });
+        }
+        let round = make_round(base, workspace, meter);
+        prepare_next(base.case, rounds_before, Some(top.total), workspace);
+        gains = gains.after(round.sum, base.scale);
+        if round.bound <= best {
             continue;
         }
-        best = bound;
-        sent = log_round(log, sent, rounds_before as u64 + 1, bound)?;
+        best = round.bound;
+        sent = log_round(log, sent, rounds_before as u64 + 1, best)?;
     }
     Ok(Reached { bound: best, sent })
 }
 
-/// The lower bound by the dual prices of the round. The cover counts each nurse's cheapest row, and the pool
-/// keeps it.
+/// After this many barren rounds in a row, no more are made.
+const MOST_BARREN: u16 = 30;
+
+/// The greatest sum of the rounds so far, and how many rounds in a row, up to the last one, were barren.
+#[derive(Clone, Copy)]
+struct Gains {
+    top: u64,
+    barren: u16,
+}
+
+impl Gains {
+    /// The same after a round with this sum, in parts of a point. It is barren if it raised the greatest sum
+    /// by less than a quarter of a point.
+    fn after(self, sum: u64, scale: u32) -> Gains
+        requires { self.barren < most_barren }
+        ensures top { result.top ≡ max sum self.top }
+        ensures barren { result.barren ≡ (if nat_lt (4 * (sum - self.top)) scale
+            then self.barren + 1 else 0) }
+    {
+        let gain = sum.saturating_sub(self.top);
+        let barren = if gain.saturating_mul(4) < scale as u64 {
+            self.barren + 1
+        } else {
+            0
+        };
+        Gains {
+            top: sum.max(self.top),
+            barren,
+        }
+    }
+}
+
+/// What a round found: what slots and nurses cost at least together, as `sum_in` gives it, and the lower
+/// bound that this gives.
+#[derive(Clone, Copy)]
+struct RoundBound {
+    sum: u64,
+    bound: u64,
+}
+
+/// The lower bound by the dual prices. The cover counts each nurse's cheapest row, and the pool keeps it.
 fn make_round<T: SearchesRows>(
     base: &Base<'_>,
     workspace: &mut BoundWorkspace<T>,
     meter: &mut Meter,
-) -> u64
+) -> RoundBound
     requires fits { FitsBound base.now.case.now workspace.old }
     requires room { meter.old + nurse_count base.now.case.now * greatest_extension_count
         base.now.case.now ≤ greatest_u64 }
-    ensures below { IsLowerBound base.now.case.now base.now.from base.now.given.now result }
-    ensures dual_prices { AreDualPrices (slot_prices workspace.old.tried) }
-    ensures bound { result ≡ bound_by base.now.case.now base.now.from base.now.given.now
-        (slot_prices workspace.old.tried) }
+    ensures below { IsLowerBound base.now.case.now base.now.from base.now.given.now result.bound }
+    ensures dual_prices { AreDualPrices base.now.scale
+        (slot_prices base.now.scale workspace.old.dual_prices) }
+    ensures sum { result.sum ≡ sum_by base.now.case.now base.now.from base.now.given.now
+        base.now.scale (slot_prices base.now.scale workspace.old.dual_prices) }
+    ensures bound { result.bound ≡ bound_by base.now.case.now base.now.from base.now.given.now
+        base.now.scale (slot_prices base.now.scale workspace.old.dual_prices) }
     ensures counted { CountsRound base.now.case.now meter.old meter.new }
     ensures fits { FitsBound base.now.case.now workspace.new }
 {
-    workspace.tried.keep_most();
+    workspace.dual_prices.keep_most();
     let terms = Terms {
         case: base.case,
-        dual_prices: &workspace.tried,
+        dual_prices: &workspace.dual_prices,
         given: base.given,
         from: base.from,
+        scale: base.scale,
     };
-    lower_bound(&terms, &mut workspace.rows, &mut workspace.pool, meter)
-}
-
-/// Whether coordinate ascent follows a round, before which `made` rounds were made: in the last fifth.
-fn is_late(made: u16, rounds: u16) -> bool {
-    5 * made as u32 >= 4 * rounds as u32
+    let sum = sum_in(&terms, &[], &mut workspace.rows, &mut workspace.pool, meter);
+    RoundBound {
+        sum,
+        bound: bound_of_sum(base.case, base.scale, sum),
+    }
 }

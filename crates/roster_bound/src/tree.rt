@@ -1,6 +1,6 @@
 //! A lower bound for all rosters as the least over the nodes of a branching tree.
 
-ghost use Rattle.std.specs.Prelude.{◌≡◌, ◌+◌, ◌*◌, ◌<◌, ◌≤◌, IfOk};
+ghost use Rattle.std.specs.Prelude.{◌≡◌, ◌+◌, ◌*◌, ◌<◌, ◌≤◌, IfNone, IfOk, length};
 ghost use Rattle.roster_bundle.specs.Limits.{greatest_u64};
 ghost use Rattle.roster_instance.specs.Meaning.{nurse_count};
 ghost use Rattle.roster_laws.specs.Greatest.{extensions_in, greatest_extension_count};
@@ -12,11 +12,12 @@ ghost use Rattle.roster_prices.specs.Workspaces.{FitsBound};
 use crate::bounds::lower_bound_in;
 use crate::choosing::choose;
 use crate::nodes::{Node, Nodes};
-use crate::pooled::{move_by_pooled_rows, move_in_node};
+use crate::pooled::move_in_node;
 use crate::upper::UpperBound;
 use roster_instance::Case;
 use roster_offers::{BestFault, SearchesRows};
-use roster_prices::{Base, BoundWorkspace, Decision, Terms};
+use roster_prices::{Base, BoundWorkspace, Decision, Terms, move_by_pooled_rows};
+use roster_slots::target_cap;
 use roster_state::Meter;
 use std::alloc::Global;
 
@@ -52,13 +53,14 @@ impl<T: SearchesRows> BoundSpace<T> {
     }
 }
 
-/// How many rounds of searches are made in a node at most.
+/// How many rounds of searches are made in each child of a branching at most.
 const NODE_ROUNDS: u16 = 12;
 
-/// How many subgradient steps by pooled rows precede these rounds.
-const STEPS_BEFORE: u16 = 300;
+/// For how many rounds subgradient steps by pooled rows precede these.
+const ROUNDS_BEFORE: u16 = 6;
 
-/// Branches the node with the least lower bound. Returns false if that isn't possible.
+/// Branches the node with the least lower bound. If its pooled rows give no decision, as before the second
+/// round, half of the searches are made in the node itself first. Returns false if that was of no use.
 pub(crate) fn branch_least<T: SearchesRows>(
     upper: &UpperBound<'_>,
     space: &mut BoundSpace<T>,
@@ -76,55 +78,113 @@ pub(crate) fn branch_least<T: SearchesRows>(
     ensures counted { meter.new ≤ meter.old + extensions_in upper.now.base.now.case.now
         (2 * node_rounds) }
 {
-    let BoundSpace { bounds, nodes } = space;
-    if nodes.items.is_empty() {
+    if space.nodes.items.is_empty() {
         return false;
     }
-    let at = nodes.least();
-    let chosen = choose(upper.base.case, &nodes.items[at], bounds, &mut nodes.uses);
-    let Some(mut two) = chosen else {
-        return false;
-    };
-    raise_node(upper, &mut two.with, bounds, meter);
-    raise_node(upper, &mut two.without, bounds, meter);
-    nodes.put_children(at, two)
+    let at = space.nodes.least();
+    if let Some(is_branched) = branch_at(upper, at, NODE_ROUNDS, space, meter) {
+        return is_branched;
+    }
+    let rose = raise_at(upper, at, space, meter);
+    match branch_at(upper, at, NODE_ROUNDS / 2, space, meter) {
+        Some(is_branched) => is_branched,
+        None => rose,
+    }
 }
 
-/// Raises the lower bound of a node.
+/// Branches the node at an index, and makes this many rounds of searches in each child. Returns false if
+/// there is no capacity for the children. If the pooled rows give no decision, it makes no search and returns
+/// none.
+fn branch_at<T: SearchesRows>(
+    upper: &UpperBound<'_>,
+    at: usize,
+    rounds: u16,
+    space: &mut BoundSpace<T>,
+    meter: &mut Meter,
+) -> Option<bool>
+    requires at { at < length space.old.nodes.items.items }
+    requires rounds { rounds ≤ node_rounds }
+    requires fits { FitsBound upper.now.base.now.case.now space.old.bounds }
+    requires nodes { AreNodesOf upper.now.base.now.case.now upper.now.base.now.from
+        upper.now.base.now.given.now space.old.nodes.items.items }
+    requires room { meter.old + extensions_in upper.now.base.now.case.now (2 * rounds)
+        ≤ greatest_u64 }
+    ensures nodes { AreNodesOf upper.now.base.now.case.now upper.now.base.now.from
+        upper.now.base.now.given.now space.new.nodes.items.items }
+    ensures none { IfNone result (meter.new ≡ meter.old) }
+    ensures same { IfNone result (space.new.nodes.items ≡ space.old.nodes.items) }
+    ensures fits { FitsBound upper.now.base.now.case.now space.new.bounds }
+    ensures grows { meter.old ≤ meter.new }
+    ensures counted { meter.new ≤ meter.old + extensions_in upper.now.base.now.case.now
+        (2 * rounds) }
+{
+    let case = upper.base.case;
+    let cap = target_cap(case, Some(upper.total));
+    let BoundSpace { bounds, nodes } = space;
+    let mut two = choose(case, &nodes.items[at], cap, bounds, &mut nodes.uses)?;
+    raise_node(upper, &mut two.with, rounds, bounds, meter);
+    raise_node(upper, &mut two.without, rounds, bounds, meter);
+    Some(nodes.put_children(at, two))
+}
+
+/// Raises the lower bound of the node at an index. Returns whether it rose.
+fn raise_at<T: SearchesRows>(
+    upper: &UpperBound<'_>,
+    at: usize,
+    space: &mut BoundSpace<T>,
+    meter: &mut Meter,
+) -> bool
+    requires at { at < length space.old.nodes.items.items }
+    requires fits { FitsBound upper.now.base.now.case.now space.old.bounds }
+    requires nodes { AreNodesOf upper.now.base.now.case.now upper.now.base.now.from
+        upper.now.base.now.given.now space.old.nodes.items.items }
+    requires room { meter.old + extensions_in upper.now.base.now.case.now node_rounds
+        ≤ greatest_u64 }
+    ensures nodes { AreNodesOf upper.now.base.now.case.now upper.now.base.now.from
+        upper.now.base.now.given.now space.new.nodes.items.items }
+    ensures count { length space.new.nodes.items.items ≡ length space.old.nodes.items.items }
+    ensures fits { FitsBound upper.now.base.now.case.now space.new.bounds }
+    ensures grows { meter.old ≤ meter.new }
+    ensures counted { meter.new ≤ meter.old + extensions_in upper.now.base.now.case.now
+        node_rounds }
+{
+    let BoundSpace { bounds, nodes } = space;
+    let node = &mut nodes.items[at];
+    let before = node.bound;
+    raise_node(upper, node, NODE_ROUNDS, bounds, meter);
+    node.bound > before
+}
+
+/// Raises the lower bound of a node by at most this many rounds of searches.
 fn raise_node<T: SearchesRows>(
     upper: &UpperBound<'_>,
     node: &mut Node,
+    rounds: u16,
     bounds: &mut BoundWorkspace<T>,
     meter: &mut Meter,
 )
     requires fits { FitsBound upper.now.base.now.case.now bounds.old }
     requires below { IsLowerBoundIn upper.now.base.now.case.now upper.now.base.now.from
         upper.now.base.now.given.now node.old.decisions.items node.old.bound }
-    requires room { meter.old + extensions_in upper.now.base.now.case.now node_rounds
-        ≤ greatest_u64 }
+    requires room { meter.old + extensions_in upper.now.base.now.case.now rounds ≤ greatest_u64 }
     ensures decisions { node.new.decisions ≡ node.old.decisions }
     ensures below { IsLowerBoundIn upper.now.base.now.case.now upper.now.base.now.from
         upper.now.base.now.given.now node.new.decisions.items node.new.bound }
     ensures fits { FitsBound upper.now.base.now.case.now bounds.new }
     ensures grows { meter.old ≤ meter.new }
-    ensures counted { meter.new ≤ meter.old + extensions_in upper.now.base.now.case.now
-        node_rounds }
+    ensures counted { meter.new ≤ meter.old + extensions_in upper.now.base.now.case.now rounds }
 {
     let case = upper.base.case;
-    move_by_pooled_rows(
-        case,
-        node.decisions.as_slice(),
-        STEPS_BEFORE,
-        bounds,
-        &mut [],
-    );
-    for made in 0..NODE_ROUNDS {
+    let cap = target_cap(case, Some(upper.total));
+    let decisions = node.decisions.as_slice();
+    move_in_node(case, decisions, cap, ROUNDS_BEFORE, bounds, &mut []);
+    for made in 0..rounds {
         if node.bound >= upper.total {
             break;
         }
         let bound = round_in_node(upper.base, node.decisions.as_slice(), bounds, meter);
         node.bound = node.bound.max(bound);
-        move_in_node(case, node.decisions.as_slice(), made, NODE_ROUNDS, bounds);
+        move_by_pooled_rows(case, node.decisions.as_slice(), cap, bounds, &mut []);
     }
 }
 
@@ -151,6 +211,7 @@ fn round_in_node<T: SearchesRows>(
         dual_prices: &workspace.dual_prices,
         given: base.given,
         from: base.from,
+        scale: base.scale,
     };
     lower_bound_in(
         &terms,

@@ -37,7 +37,7 @@ module _ (day : CompletionDay) (run q a w price : ℕ) where
 
   -- what a choice costs from a state, and the index of the completion bound after it
   abbrev cost : Summary → Choice → ℕ
-  cost s choice = rated day.case.now day.nurse day.rates day.day s (offer choice)
+  cost s choice = rated day.case.now day.nurse day.scale day.rates day.day s (offer choice)
 
   abbrev index : Summary → Option Shift → ℕ
   index s shift = cell_index (sizes_of day.case.now day.nurse) (next_of day.case.now day.nurse day.day s shift)
@@ -48,15 +48,15 @@ module _ (day : CompletionDay) (run q a w price : ℕ) where
   free = state_of None run q a w
 
   cost_off : cost free Off ≡ apart_of day false (offer Off) + rest_goes_on day run
-  cost_off = rw day.rules_are (let shifts = shifts_by_two day.case.now free None tt tt in omega (arith, shifts))
+  cost_off = rw day.rules_are (let shifts = shifts_by_two day.case.now free None tt tt in omega (arith, ap (λ m. day.scale * m) shifts))
 
   index_off : index free None ≡ line_index day 0 (longer run day.rules.free)
   unfolding next_of
   index_off = rw (day.rules_are, day.runs_are, day.shift_runs_are) (omega arith)
 
   module _ (u : Shift) (k : Skill) (of_case : u.0 < shift_count day.case.now) where
-    cost_enter : cost free (Work u k) ≡ apart_of day false (offer (Work u k)) + work_goes_on day 0 + rest_ends day run + shift_run_weight * day_violations (run_of_shift day.case.now u.0) 0 true
-    cost_enter = rw day.rules_are (let shifts = shifts_by_two day.case.now free (Some u) tt of_case in omega (arith, shifts))
+    cost_enter : cost free (Work u k) ≡ apart_of day false (offer (Work u k)) + work_goes_on day 0 + rest_ends day run + day.scale * (shift_run_weight * day_violations (run_of_shift day.case.now u.0) 0 true)
+    cost_enter = rw day.rules_are (let shifts = shifts_by_two day.case.now free (Some u) tt of_case in omega (arith, ap (λ m. day.scale * m) shifts))
 
     index_enter : index free (Some u) ≡ begun_index day u (min 1 (cap day.rules.working))
     unfolding next_of
@@ -81,8 +81,8 @@ module _ (day : CompletionDay) (run q a w price : ℕ) where
     abbrev to : ℕ
     to = longer run day.rules.working
 
-    cost_rest : cost worked Off ≡ apart_of day true (offer Off) + work_ends day run + rest_goes_on day 0 + shift_run_weight * day_violations (run_of_shift day.case.now t.0) q false
-    cost_rest = rw day.rules_are (let shifts = shifts_by_two day.case.now worked None follows.in_case tt in omega (arith, shifts))
+    cost_rest : cost worked Off ≡ apart_of day true (offer Off) + work_ends day run + rest_goes_on day 0 + day.scale * (shift_run_weight * day_violations (run_of_shift day.case.now t.0) q false)
+    cost_rest = rw day.rules_are (let shifts = shifts_by_two day.case.now worked None follows.in_case tt in omega (arith, ap (λ m. day.scale * m) shifts))
 
     index_rest : index worked None ≡ line_index day 0 (min 1 (cap day.rules.free))
     unfolding next_of
@@ -91,12 +91,12 @@ module _ (day : CompletionDay) (run q a w price : ℕ) where
     module _ (u : Shift) (k : Skill) (of_case : u.0 < shift_count day.case.now) where
       -- the same shift
       module _ (e : t.0 ≡ u.0) where
-        cost_same : cost worked (Work u k) ≡ apart_of day true (offer (Work u k)) + work_goes_on day run + shift_run_weight * day_violations (run_of_shift day.case.now t.0) q true
+        cost_same : cost worked (Work u k) ≡ apart_of day true (offer (Work u k)) + work_goes_on day run + day.scale * (shift_run_weight * day_violations (run_of_shift day.case.now t.0) q true)
         cost_same =
             rw day.rules_are (
             let shifts = rw (eq-eqb t.0 u.0 e, eq-eqb u.0 t.0 (sym e)) at (shifts_by_two day.case.now worked (Some u) follows.in_case of_case) in
             let run_is = ap (λ m. day_violations (run_of_shift day.case.now m) q true) e in
-            omega (arith, shifts, run_is))
+            omega (arith, ap (λ m. day.scale * m) shifts, ap (λ m. day.scale * m) run_is))
 
         index_again : index worked (Some u) ≡ line_index day (u.0 + 1) to + min (q + 1) (cap (run_of_shift day.case.now u.0))
         unfolding next_of
@@ -107,11 +107,11 @@ module _ (day : CompletionDay) (run q a w price : ℕ) where
 
       -- another shift
       module _ (e : t.0 ≢ u.0) where
-        cost_other : cost worked (Work u k) ≡ apart_of day true (offer (Work u k)) + work_goes_on day run + shift_run_weight * day_violations (run_of_shift day.case.now t.0) q false + shift_run_weight * day_violations (run_of_shift day.case.now u.0) 0 true
+        cost_other : cost worked (Work u k) ≡ apart_of day true (offer (Work u k)) + work_goes_on day run + day.scale * (shift_run_weight * day_violations (run_of_shift day.case.now t.0) q false) + day.scale * (shift_run_weight * day_violations (run_of_shift day.case.now u.0) 0 true)
         cost_other =
             rw day.rules_are (
             let shifts = rw (ne_eqb t.0 u.0 e, ne_eqb u.0 t.0 (λ i. e (sym i))) at (shifts_by_two day.case.now worked (Some u) follows.in_case of_case) in
-            omega (arith, shifts))
+            omega (arith, ap (λ m. day.scale * m) shifts))
 
         index_other : index worked (Some u) ≡ begun_index day u to
         unfolding next_of
@@ -119,8 +119,8 @@ module _ (day : CompletionDay) (run q a w price : ℕ) where
 
     -- a completion bound that is no more than what each choice costs
     module _ (leave completion_bound : ℕ) (leave_off : leave ≤ after.off + work_ends day run) (leave_on : IsUnderWays day after run leave)
-        (leaves : completion_bound ≤ leave + shift_run_weight * day_violations (run_of_shift day.case.now t.0) q false)
-        (stays : completion_bound ≤ after.ways.stay + work_goes_on day run + shift_run_weight * day_violations (run_of_shift day.case.now t.0) q true + next_at day (line_index day (t.0 + 1) to + min (q + 1) (cap (run_of_shift day.case.now t.0)))) where
+        (leaves : completion_bound ≤ leave + day.scale * (shift_run_weight * day_violations (run_of_shift day.case.now t.0) q false))
+        (stays : completion_bound ≤ after.ways.stay + work_goes_on day run + day.scale * (shift_run_weight * day_violations (run_of_shift day.case.now t.0) q true) + next_at day (line_index day (t.0 + 1) to + min (q + 1) (cap (run_of_shift day.case.now t.0)))) where
       under_same : (u : Shift) (k : Skill) → u.0 < shift_count day.case.now → t.0 ≡ u.0 → after.ways.stay ≤ apart_of day true (offer (Work u k)) → IsUnder day worked completion_bound (offer (Work u k))
       under_same u k of_case e way_on _ = omega (arith, stays, way_on, cost_same u k of_case e, ap (next_at day) (index_same u k of_case e))
 

@@ -1,6 +1,6 @@
 -- What assignments and worked weekends cost from a day on: by the first of the days to come, and at least,
 -- whatever comes.
-use Rattle.std.proofs.Common.{◌≡◌, ◌+◌, ◌-◌, ◌*◌, ◌<◌, ◌≤◌, ◌⊎◌, ℕ, Bool, true, false, inl, inr, ap, arith, min, mul-add, mul-le-mul_left, mul-le-mul_right, nat_le, refl, if◌then◌else◌}
+use Rattle.std.proofs.Common.{◌≡◌, ◌+◌, ◌-◌, ◌*◌, ◌<◌, ◌≤◌, ◌⊎◌, ℕ, Bool, true, false, inl, inr, ap, arith, max, min, mul-add, mul-le-mul_left, mul-le-mul_right, nat_le, refl, if◌then◌else◌}
 use Rattle.std.proofs.lemmas.Bool.{cases_lt, le-leb, lt-leb}
 use Rattle.roster_instance.specs.declared.rules.Limits.{Limits}
 use Rattle.roster_instance.specs.Counting.{one_if}
@@ -46,14 +46,34 @@ at_rate rate weight free k small = go (cases_lt k free)
 abbrev pub free_days : Limits → (count left : ℕ) → ℕ
 free_days l a left = min (cap l - a) left
 
-pub total_at_least : (l : Limits) (rate a k left : ℕ) → rate ≤ assignment_weight → k ≤ left → assignment_weight * (l.least - (a + free_days l a left)) + rate * k ≤ total_later l a k + rate * free_days l a left
-total_at_least l rate a k left small few = go (free_days l a left) (rate * k) (rate * free_days l a left) refl (at_rate rate assignment_weight (free_days l a left) k small)
+-- what is missing in any case, and what comes beyond the free assignments, is due in the end
+missing_and_over : (l : Limits) (a k left : ℕ) → k ≤ left → l.least - (a + free_days l a left) + (k - free_days l a left) ≤ (a + k - max a l.greatest) + (l.least - (a + k))
+missing_and_over l a k left few = go (free_days l a left) refl
   where
-    go : (free paid spared : ℕ) → free ≡ min (cap l - a) left → paid ≤ spared + assignment_weight * (k - free) → assignment_weight * (l.least - (a + free)) + paid ≤ total_later l a k + spared
-    go free paid spared is low = omega (arith, few, is, low)
+    go : (free : ℕ) → free ≡ min (cap l - a) left → l.least - (a + free) + (k - free) ≤ (a + k - max a l.greatest) + (l.least - (a + k))
+    go free is = omega (arith, few, is)
 
-pub weekends_at_least : (g rate w k left : ℕ) → rate ≤ weekend_weight → k ≤ left → rate * k ≤ weekends_later g w k + rate * min (g - w) left
-weekends_at_least g rate w k left small few = go (min (g - w) left) (rate * k) (rate * min (g - w) left) refl (at_rate rate weekend_weight (min (g - w) left) k small)
+-- the same at a rate, if each costs this weight
+at_weight : (rate weight free k missing due : ℕ) → rate * k ≤ rate * free + weight * (k - free) → missing + (k - free) ≤ due → weight * missing + rate * k ≤ weight * due + rate * free
+at_weight rate weight free k missing due paid all =
+    let most : weight * (missing + (k - free)) ≤ weight * due = mul-le-mul_left weight all in
+    omega (arith, paid, most, mul-add weight missing (k - free))
+
+pub total_at_least : (scale : ℕ) (l : Limits) (rate a k left : ℕ) → rate ≤ scale * assignment_weight → k ≤ left → scale * (assignment_weight * (l.least - (a + free_days l a left))) + rate * k ≤ scale * total_later l a k + rate * free_days l a left
+total_at_least scale l rate a k left small few =
+    go (free_days l a left) (l.least - (a + free_days l a left)) ((a + k - max a l.greatest) + (l.least - (a + k)))
+    (at_weight rate (scale * assignment_weight) (free_days l a left) k (l.least - (a + free_days l a left)) ((a + k - max a l.greatest) + (l.least - (a + k))) (at_rate rate (scale * assignment_weight) (free_days l a left) k small) (missing_and_over l a k left few))
   where
-    go : (free paid spared : ℕ) → free ≡ min (g - w) left → paid ≤ spared + weekend_weight * (k - free) → paid ≤ weekends_later g w k + spared
-    go free paid spared is low = omega (arith, few, is, low)
+    go : (free missing due : ℕ) → scale * assignment_weight * missing + rate * k ≤ scale * assignment_weight * due + rate * free → scale * (assignment_weight * missing) + rate * k ≤ scale * (assignment_weight * due) + rate * free
+    go free missing due low = omega (arith, low)
+
+pub weekends_at_least : (scale g rate w k left : ℕ) → rate ≤ scale * weekend_weight → k ≤ left → rate * k ≤ scale * weekends_later g w k + rate * min (g - w) left
+weekends_at_least scale g rate w k left small few =
+    go (min (g - w) left) (w + k - max w g)
+    (at_weight rate (scale * weekend_weight) (min (g - w) left) k 0 (w + k - max w g) (at_rate rate (scale * weekend_weight) (min (g - w) left) k small) (over (min (g - w) left) refl))
+  where
+    over : (free : ℕ) → free ≡ min (g - w) left → 0 + (k - free) ≤ w + k - max w g
+    over free is = omega (arith, few, is)
+
+    go : (free due : ℕ) → scale * weekend_weight * 0 + rate * k ≤ scale * weekend_weight * due + rate * free → rate * k ≤ scale * (weekend_weight * due) + rate * free
+    go free due low = omega (arith, low)

@@ -30,12 +30,12 @@ pub set_next : (first count : ℕ) (before here after : List ℕ) → length bef
 set_next first count before here after long as_long k below = grind (arith, places)
 
 module _ (day : CompletionDay) (first count : ℕ) (first_is : first ≡ day.day * count) (count_is : length day.next.now ≡ count) (here completion_bounds : List ℕ) where
-  set_by_day : UnderDay day here → ((k : ℕ) → k < count → get_or completion_bounds (first + k) 0 ≡ get_or here k 0) → ((k : ℕ) → k < count → get_or completion_bounds (first + count + k) 0 ≡ next_at day k) → LieUnder day.case.now day.nurse day.rates (λ _. day.offers.now) completion_bounds day.day
+  set_by_day : UnderDay day here → ((k : ℕ) → k < count → get_or completion_bounds (first + k) 0 ≡ get_or here k 0) → ((k : ℕ) → k < count → get_or completion_bounds (first + count + k) 0 ≡ next_at day k) → LieUnder day.case.now day.nurse day.scale day.rates (λ _. day.offers.now) completion_bounds day.day
   set_by_day under here_is next_is s fit =
       let z = sizes_of day.case.now day.nurse in
       let size : completion_count z ≡ count = sym (day.all_next ∙ all_are day) ∙ count_is in
       let all = ap (λ m. day.day * m) size in
-      All-from_get_or (LiesUnder day.case.now day.nurse day.rates completion_bounds day.day s) day.offers.now nothing (λ k l allowed.
+      All-from_get_or (LiesUnder day.case.now day.nurse day.scale day.rates completion_bounds day.day s) day.offers.now nothing (λ k l allowed.
       let shift = shift_of (offer_on day k).choice in
       let to = next_of day.case.now day.nurse day.day s shift in
       let fits = next_fits day.case.now day.nurse day.day s shift (shift_of_case day.case.now (offer_on day k).choice (of_day day k l).choice) in
@@ -46,10 +46,10 @@ module _ (day : CompletionDay) (first count : ℕ) (first_is : first ≡ day.day
       omega (arith, under s fit k l allowed, here, there))
 
 -- the day of a search, from its index among all days
-pub day_set : {c : Meaning} {n : ℕ} {rates : Rates} {d : ℕ} {next : List ℕ} {day : CompletionDay} (offers : ℕ → List Offer) (is : IsCompletionDayOf c n rates d (offers d) next day) (count : ℕ) (here completion_bounds : List ℕ) → UnderDay day here → length next ≡ count → ((k : ℕ) → k < count → get_or completion_bounds (d * count + k) 0 ≡ get_or here k 0) → ((k : ℕ) → k < count → get_or completion_bounds (d * count + count + k) 0 ≡ get_or next k 0)
-    → LieUnder c n rates offers completion_bounds d
-day_set {c} {n} {rates} {d} {next} {day} offers is count here completion_bounds under long here_is next_is =
-    transport (λ i. LieUnder (is.case i) (is.nurse i) (is.rates i) (λ _. is.offers i) completion_bounds (is.day i))
+pub day_set : {c : Meaning} {n scale : ℕ} {rates : Rates} {d : ℕ} {next : List ℕ} {day : CompletionDay} (offers : ℕ → List Offer) (is : IsCompletionDayOf c n scale rates d (offers d) next day) (count : ℕ) (here completion_bounds : List ℕ) → UnderDay day here → length next ≡ count → ((k : ℕ) → k < count → get_or completion_bounds (d * count + k) 0 ≡ get_or here k 0) → ((k : ℕ) → k < count → get_or completion_bounds (d * count + count + k) 0 ≡ get_or next k 0)
+    → LieUnder c n scale rates offers completion_bounds d
+day_set {c} {n} {scale} {rates} {d} {next} {day} offers is count here completion_bounds under long here_is next_is =
+    transport (λ i. LieUnder (is.case i) (is.nurse i) (is.scale i) (is.rates i) (λ _. is.offers i) completion_bounds (is.day i))
     (set_by_day day (d * count) count (ap (λ m. m * count) (sym is.day)) (ap length is.next ∙ long) here completion_bounds under here_is (λ k l. next_is k l ∙ ap (λ ys. get_or ys k 0) (sym is.next)))
 
 -- ---- after each last shift
@@ -73,15 +73,15 @@ day_under day here digits all each s fit =
 -- ---- all days
 
 -- a day stays set while an earlier day is set
-pub set_kept : (c : Meaning) (n : ℕ) (rates : Rates) (offers : ℕ → List Offer) (old new : List ℕ) (day d : ℕ) → day < d → ((k : ℕ) → day * completion_count (sizes_of c n) + completion_count (sizes_of c n) ≤ k → get_or new k 0 ≡ get_or old k 0) → LieUnder c n rates offers old d → LieUnder c n rates offers new d
-set_kept c n rates offers old new day d later kept set s fit k x inside allowed =
+pub set_kept : (c : Meaning) (n scale : ℕ) (rates : Rates) (offers : ℕ → List Offer) (old new : List ℕ) (day d : ℕ) → day < d → ((k : ℕ) → day * completion_count (sizes_of c n) + completion_count (sizes_of c n) ≤ k → get_or new k 0 ≡ get_or old k 0) → LieUnder c n scale rates offers old d → LieUnder c n scale rates offers new d
+set_kept c n scale rates offers old new day d later kept set s fit k x inside allowed =
     let z = sizes_of c n in
     let from = block_inside day d (completion_count z) later in
     let to = next_of c n d s (shift_of (get_or (offers d) k x).choice) in
     omega (arith, set s fit k x inside allowed, kept (completion_index z d s) (omega (arith, from, completion_bound_is z d s)), kept (completion_index z (suc d) to) (omega (arith, from, completion_bound_is z (suc d) to, suc-mul d (completion_count z))))
 
-pub all_days : (c : Meaning) (n : ℕ) (rates : Rates) (offers : ℕ → List Offer) (completion_bounds : List ℕ) → ((d : ℕ) → d < day_count c → LieUnder c n rates offers completion_bounds d) → ((k : ℕ) → k < completion_count (sizes_of c n) → get_or completion_bounds (day_count c * completion_count (sizes_of c n) + k) 0 ≡ 0) → AreCompletionBounds c n rates offers completion_bounds
-all_days c n rates offers completion_bounds set end =
+pub all_days : (c : Meaning) (n scale : ℕ) (rates : Rates) (offers : ℕ → List Offer) (completion_bounds : List ℕ) → ((d : ℕ) → d < day_count c → LieUnder c n scale rates offers completion_bounds d) → ((k : ℕ) → k < completion_count (sizes_of c n) → get_or completion_bounds (day_count c * completion_count (sizes_of c n) + k) 0 ≡ 0) → AreCompletionBounds c n scale rates offers completion_bounds
+all_days c n scale rates offers completion_bounds set end =
     let z = sizes_of c n in
     record { under = set; end = λ s fit. ap (λ i. get_or completion_bounds i 0) (completion_bound_is z (day_count c) s) ∙ end (cell_index z s) (cell_below z s fit) }
 

@@ -7,7 +7,7 @@ use Rattle.roster_instance.specs.declared.rules.ContractRules.{ContractRules}
 use Rattle.roster_instance.specs.Meaning.{run_of_shift, shift_count}
 use Rattle.roster_instance.specs.Sizes.{cap}
 use Rattle.roster_rules.specs.Prefix.{Summary}
-use Rattle.roster_offers.specs.Lists.{IsOfferOf}
+use Rattle.roster_offers.specs.Lists.{IsOfferAt}
 use Rattle.roster_state.specs.Codes.{Sizes, fits_sizes, shift_digit, sizes_of}
 use Rattle.roster_state.specs.Transition.{next_of}
 use Rattle.roster_state.proofs.CodeLemmas.{fits-all}
@@ -51,8 +51,8 @@ module _ (z : Sizes) (s : Summary) (fit : fits_sizes z s ≡ true) (d : ℕ) whe
 -- ---- of a day
 
 -- an offer of the day is one of the case's
-pub of_day : (day : CompletionDay) (k : ℕ) → k < length day.offers.now → IsOfferOf day.case.now (offer_on day k)
-of_day day k below = All-get_or (IsOfferOf day.case.now) day.offers.now k nothing below day.of_case
+pub of_day : (day : CompletionDay) (k : ℕ) → k < length day.offers.now → IsOfferAt day.case.now day.scale (offer_on day k)
+of_day day k below = All-get_or (IsOfferAt day.case.now day.scale) day.offers.now k nothing below day.of_case
 
 module _ (day : CompletionDay) where
   pub all_are : day.lasts * (day.runs * day.shift_runs) ≡ completion_count (sizes_of day.case.now day.nurse)

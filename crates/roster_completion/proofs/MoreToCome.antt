@@ -7,7 +7,7 @@ use Rattle.roster_instance.specs.Counting.{one_if}
 use Rattle.roster_instance.specs.Meaning.{Meaning, day_count, week_count}
 use Rattle.roster_state.proofs.SumLaw.{one_at_most}
 use Rattle.roster_rules.specs.Prefix.{Summary}
-use Rattle.roster_offers.specs.Offers.{best_of_offers}
+use Rattle.roster_offers.specs.Offers.{best_of_offers_at}
 use Rattle.roster_offers.specs.declared.offer.Offer.{Offer}
 use Rattle.roster_state.specs.Transition.{next_of}
 use Rattle.roster_completion.specs.Later.{days_to_work, weekends_to_work}
@@ -61,7 +61,7 @@ module _ (c : Meaning) (n : ℕ) where
       (omega (arith, after.0, one_at_most (is_some shift)), omega (arith, later, weekend_day m d (week_count c) (is_some s.last) (is_some shift) days))
 
   -- no more than the days and the weekends that are left
-  pub few_to_come : (offers : ℕ → List Offer) (m d : ℕ) (s : Summary) → m + d ≡ day_count c → (cost : ℕ) (row : List Offer) → best_of_offers c n offers m d s ≡ Some (cost, row) → (days_to_work row ≤ m) × (weekends_to_work d s.last row ≤ (m + 6) / 7)
-  few_to_come offers m d s days cost row is =
-      let few = by_days c n offers (λ d x. 0 ≤ d) (λ d below k x inside. omega arith) (λ m d s cost row. AreFew m d s row) (λ d s last. (omega arith, omega arith)) (λ m d s x cost row days _ _ after. day_more m d s x row days after) m d s days cost row is in
+  pub few_to_come : (scale : ℕ) (offers : ℕ → List Offer) (m d : ℕ) (s : Summary) → m + d ≡ day_count c → (cost : ℕ) (row : List Offer) → best_of_offers_at c n scale offers m d s ≡ Some (cost, row) → (days_to_work row ≤ m) × (weekends_to_work d s.last row ≤ (m + 6) / 7)
+  few_to_come scale offers m d s days cost row is =
+      let few = by_days c n scale offers (λ d x. 0 ≤ d) (λ d below k x inside. omega arith) (λ m d s cost row. AreFew m d s row) (λ d s last. (omega arith, omega arith)) (λ m d s x cost row days _ _ after. day_more m d s x row days after) m d s days cost row is in
       (few.0, omega (arith, few.1, left_at_most m s.last))

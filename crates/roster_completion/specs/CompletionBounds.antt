@@ -15,10 +15,11 @@ use Rattle.roster_state.specs.Transition.{free_more, next_of, shifts_more, split
 use Rattle.roster_offers.specs.declared.offer.Offer.{Offer}
 use Rattle.roster_completion.specs.declared.rates.Rates.{Rates}
 
--- rates that are no more than what one assignment or worked weekend too many costs
-pub record AreSmallRates (rates : Rates) : Type 0 where
-  pub day : rates.day ≤ assignment_weight
-  pub weekend : rates.weekend ≤ weekend_weight
+-- rates that are no more than what one assignment or worked weekend too many costs, in parts of a point,
+-- `scale` to a point
+pub record AreSmallRates (scale : ℕ) (rates : Rates) : Type 0 where
+  pub day : rates.day ≤ scale * assignment_weight
+  pub weekend : rates.weekend ≤ scale * weekend_weight
 
 -- how many completion bounds a day has
 abbrev pub completion_count : Sizes → ℕ
@@ -51,38 +52,41 @@ abbrev pub cost_without_counts : Meaning → ℕ → ℕ → Summary → Option 
 cost_without_counts c n d s shift =
     working_more c n s shift + free_more c n s shift + shifts_more c s shift + split_more c n d s shift
 
--- what a day is charged at the rates
+-- what a day is charged at the rates, in parts of a point
 abbrev pub rate_of : Rates → ℕ → Option Shift → Option Shift → ℕ
 rate_of rates d last shift =
     rates.day * one_if (is_some shift) + rates.weekend * weekends_more d (is_some last) (is_some shift)
 
--- what a day with an offer costs, with the rates instead of what assignments and worked weekends cost
-abbrev pub rated : Meaning → ℕ → Rates → ℕ → Summary → Offer → ℕ
-rated c n rates d s x =
-    x.price + cost_without_counts c n d s (shift_of x.choice) + rate_of rates d s.last (shift_of x.choice)
+-- what a day with an offer costs, with the rates instead of what assignments and worked weekends cost, in
+-- parts of a point
+abbrev pub rated : Meaning → (n scale : ℕ) → Rates → ℕ → Summary → Offer → ℕ
+rated c n scale rates d s x =
+    x.price + scale * cost_without_counts c n d s (shift_of x.choice)
+    + rate_of rates d s.last (shift_of x.choice)
 
 -- if the offer may follow, the state's completion bound is at most what the day costs with it plus the
 -- completion bound after it
-abbrev pub LiesUnder : Meaning → ℕ → Rates → List ℕ → (d : ℕ) → Summary → Offer → Type 0
-LiesUnder c n rates completion_bounds d s x =
+abbrev pub LiesUnder : Meaning → (n scale : ℕ) → Rates → List ℕ → (d : ℕ) → Summary → Offer → Type 0
+LiesUnder c n scale rates completion_bounds d s x =
     forbids c.successions s.last (shift_of x.choice) ≡ false
-    → completion_bound_at (sizes_of c n) completion_bounds d s ≤ rated c n rates d s x
+    → completion_bound_at (sizes_of c n) completion_bounds d s ≤ rated c n scale rates d s x
     + completion_bound_at (sizes_of c n) completion_bounds (suc d) (next_of c n d s (shift_of x.choice))
 
 -- this holds on a day from each state, for each offer
-abbrev pub LieUnder : Meaning → ℕ → Rates → (ℕ → List Offer) → List ℕ → ℕ → Type 0
-LieUnder c n rates offers completion_bounds d =
+abbrev pub LieUnder : Meaning → (n scale : ℕ) → Rates → (ℕ → List Offer) → List ℕ → ℕ → Type 0
+LieUnder c n scale rates offers completion_bounds d =
     (s : Summary) → fits_sizes (sizes_of c n) s ≡ true
-    → All (LiesUnder c n rates completion_bounds d s) (offers d)
+    → All (LiesUnder c n scale rates completion_bounds d s) (offers d)
 
 -- the completion bounds of all days; after the last day they are 0
-pub record AreCompletionBounds (c : Meaning) (n : ℕ) (rates : Rates) (offers : ℕ → List Offer)
+pub record AreCompletionBounds (c : Meaning) (n scale : ℕ) (rates : Rates) (offers : ℕ → List Offer)
     (completion_bounds : List ℕ) : Type 0 where
-  pub under : (d : ℕ) → d < day_count c → LieUnder c n rates offers completion_bounds d
+  pub under : (d : ℕ) → d < day_count c → LieUnder c n scale rates offers completion_bounds d
   pub end : (s : Summary) → fits_sizes (sizes_of c n) s ≡ true
       → completion_bound_at (sizes_of c n) completion_bounds (day_count c) s ≡ 0
 
 -- the same for a search
 abbrev pub AreCompletionBoundsOf : SearchInput → Rates → List ℕ → Type 0
 AreCompletionBoundsOf search rates completion_bounds =
-    AreCompletionBounds search.case.now search.nurse rates (offers_on search.offers.now) completion_bounds
+    AreCompletionBounds search.case.now search.nurse search.scale rates (offers_on search.offers.now)
+    completion_bounds

@@ -10,9 +10,9 @@ use Rattle.roster_rules.specs.DayLaw.{weekends_more}
 use Rattle.roster_rules.specs.Prefix.{Summary}
 use Rattle.roster_rules.specs.Weights.{assignment_weight, weekend_weight}
 use Rattle.roster_state.specs.Codes.{fits_sizes, sizes_of}
-use Rattle.roster_offers.specs.Lists.{IsOfferOf}
+use Rattle.roster_offers.specs.Lists.{IsOfferAt}
 use Rattle.roster_offers.specs.declared.offer.Offer.{Offer}
-use Rattle.roster_offers.specs.Offers.{best_of_offers}
+use Rattle.roster_offers.specs.Offers.{best_of_offers_at}
 use Rattle.roster_completion.specs.declared.rates.Rates.{Rates}
 use Rattle.roster_completion.specs.CompletionBounds.{AreCompletionBounds, completion_bound_at}
 
@@ -45,30 +45,30 @@ weekends_later greatest count more = weekend_weight * (count + more - max count 
 -- ---- completion bounds as lower bounds for the rest of a row
 
 -- the offers of each day are those of a case
-abbrev pub AreOfCase : Meaning → (ℕ → List Offer) → Type 0
-AreOfCase c offers = (d : ℕ) → d < day_count c → All (IsOfferOf c) (offers d)
+abbrev pub AreOfCase : Meaning → (scale : ℕ) → (ℕ → List Offer) → Type 0
+AreOfCase c scale offers = (d : ℕ) → d < day_count c → All (IsOfferAt c scale) (offers d)
 
--- what assignments and worked weekends cost in a row from a day and a state on
+-- what assignments and worked weekends cost in a row from a day and a state on, in points
 abbrev pub counts_later : Meaning → ℕ → (d : ℕ) → Summary → List Offer → ℕ
 counts_later c n d s row =
     total_later (contract_of c n).total s.assignments (days_to_work row)
     + weekends_later (contract_of c n).weekends s.weekends (weekends_to_work d s.last row)
 
--- what the days of a row are charged at the rates
+-- what the days of a row are charged at the rates, in parts of a point
 abbrev pub at_rates : Rates → (d : ℕ) → Summary → List Offer → ℕ
 at_rates rates d s row = rates.day * days_to_work row + rates.weekend * weekends_to_work d s.last row
 
 -- from each state that fits, on each day, the completion bound and what the counts cost are together no more
 -- than the cost of the best row and what its days are charged
-abbrev pub LieUnderRest : Meaning → ℕ → Rates → (ℕ → List Offer) → List ℕ → Type 0
-LieUnderRest c n rates offers completion_bounds =
+abbrev pub LieUnderRest : Meaning → (n scale : ℕ) → Rates → (ℕ → List Offer) → List ℕ → Type 0
+LieUnderRest c n scale rates offers completion_bounds =
     (m d : ℕ) (s : Summary) → m + d ≡ day_count c → fits_sizes (sizes_of c n) s ≡ true
-    → (cost : ℕ) (row : List Offer) → best_of_offers c n offers m d s ≡ Some (cost, row)
-    → completion_bound_at (sizes_of c n) completion_bounds d s + counts_later c n d s row
+    → (cost : ℕ) (row : List Offer) → best_of_offers_at c n scale offers m d s ≡ Some (cost, row)
+    → completion_bound_at (sizes_of c n) completion_bounds d s + scale * counts_later c n d s row
     ≤ cost + at_rates rates d s row
 
 -- this holds if the completion bounds are those of the offers, and the offers are of a case
-abbrev pub HaveRestAbove : Meaning → ℕ → Rates → (ℕ → List Offer) → List ℕ → Type 0
-HaveRestAbove c n rates offers completion_bounds =
-    AreCompletionBounds c n rates offers completion_bounds → AreOfCase c offers
-    → LieUnderRest c n rates offers completion_bounds
+abbrev pub HaveRestAbove : Meaning → (n scale : ℕ) → Rates → (ℕ → List Offer) → List ℕ → Type 0
+HaveRestAbove c n scale rates offers completion_bounds =
+    AreCompletionBounds c n scale rates offers completion_bounds → AreOfCase c scale offers
+    → LieUnderRest c n scale rates offers completion_bounds

@@ -61,8 +61,9 @@ offer_on day k = offer_at day.offers.now k
 abbrev pub IsUnder : CompletionDay → Summary → (completion_bound : ℕ) → Offer → Type 0
 IsUnder day s completion_bound x =
     forbids day.case.now.successions s.last (shift_of x.choice) ≡ false
-    → completion_bound ≤ rated day.case.now day.nurse day.rates day.day s x + cell_at (sizes_of day.case.now
-    day.nurse) day.next.now (next_of day.case.now day.nurse day.day s (shift_of x.choice))
+    → completion_bound ≤ rated day.case.now day.nurse day.scale day.rates day.day s x
+    + cell_at (sizes_of day.case.now day.nurse) day.next.now
+    (next_of day.case.now day.nurse day.day s (shift_of x.choice))
 
 -- the same for each offer of the day
 abbrev pub IsUnderAll : CompletionDay → Summary → (completion_bound : ℕ) → Type 0
@@ -116,26 +117,26 @@ pub record AreSet (day : CompletionDay) (old new : List ℕ) (before after : ℕ
 abbrev pub apart_of : CompletionDay → (before : Bool) → Offer → ℕ
 apart_of day before x =
     x.price
-    + (if day.rules.whole_weekends
+    + day.scale * (if day.rules.whole_weekends
     then split_weight * splits_more day.day before (is_some (shift_of x.choice)) else 0)
     + (day.rates.day * one_if (is_some (shift_of x.choice)) + day.rates.weekend
     * weekends_more day.day before (is_some (shift_of x.choice)))
 
 -- what a run of working days costs if it ends
 abbrev pub work_ends : CompletionDay → (run : ℕ) → ℕ
-work_ends day run = working_run_weight * day_violations day.rules.working run false
+work_ends day run = day.scale * (working_run_weight * day_violations day.rules.working run false)
 
 -- what it costs with one day more
 abbrev pub work_goes_on : CompletionDay → (run : ℕ) → ℕ
-work_goes_on day run = working_run_weight * day_violations day.rules.working run true
+work_goes_on day run = day.scale * (working_run_weight * day_violations day.rules.working run true)
 
 -- what a run of days off costs if it ends
 abbrev pub rest_ends : CompletionDay → (run : ℕ) → ℕ
-rest_ends day run = free_run_weight * day_violations day.rules.free run false
+rest_ends day run = day.scale * (free_run_weight * day_violations day.rules.free run false)
 
 -- what it costs with one day more
 abbrev pub rest_goes_on : CompletionDay → (run : ℕ) → ℕ
-rest_goes_on day run = free_run_weight * day_violations day.rules.free run true
+rest_goes_on day run = day.scale * (free_run_weight * day_violations day.rules.free run true)
 
 -- ---- the ways on from a last shift
 
@@ -154,7 +155,8 @@ begun_index day u run = line_index day (u.0 + 1) run + min 1 (cap (run_of_shift 
 -- the way on with a shift that begins, after a worked day or a day off
 pub record IsWayOf (day : CompletionDay) (before : Bool) (x : Offer) (u : Shift) (way : Way) : Type 0 where
   pub price : way.price
-      ≡ apart_of day before x + shift_run_weight * day_violations (run_of_shift day.case.now u.0) 0 true
+      ≡ apart_of day before x
+      + day.scale * (shift_run_weight * day_violations (run_of_shift day.case.now u.0) 0 true)
   pub index : way.index ≡ begun_index day u 0
 
 -- the way can be taken: its price is within its range, and the lines that it leads to are among the next
@@ -232,12 +234,17 @@ abbrev pub IsLeastWay : List Way → (count : ℕ) → List ℕ → (more least 
 IsLeastWay ways count next more least =
     (least ≡ most_leave) ⊎ ((k : ℕ) × (k < count) × (least ≡ way_cost ways next more k))
 
+-- what a day off after a shift costs at most, with the completion bound after it
+abbrev pub most_off : ℕ
+most_off = 2400000000
+
 -- what can follow a last shift: the ways on, and what a day off costs with the completion bound after it
 pub record IsAfterShift (day : CompletionDay) (after : AfterShift) : Type 0 where
   pub in_case : after.last.0 < shift_count day.case.now
   pub ways : AreWays day after.last after.ways
   pub off : after.off
       ≡ after.ways.off + rest_goes_on day 0 + next_at day (line_index day 0 (min 1 (cap day.rules.free)))
+  pub low : after.off ≤ most_off
 
 -- how far the lines after another working day are from those after the first one
 abbrev pub work_index : CompletionDay → (run : ℕ) → ℕ
@@ -267,7 +274,8 @@ IsUnderWays day after run leave =
 -- the cost of a shift that begins after a day off, with the completion bound after it
 abbrev pub entry_cost : CompletionDay → Offer → Shift → ℕ
 entry_cost day x u =
-    apart_of day false x + shift_run_weight * day_violations (run_of_shift day.case.now u.0) 0 true
+    apart_of day false x
+    + day.scale * (shift_run_weight * day_violations (run_of_shift day.case.now u.0) 0 true)
     + work_goes_on day 0
     + next_at day (begun_index day u (min 1 (cap day.rules.working)))
 
@@ -301,10 +309,11 @@ pub record IsOffCompletionBound (day : CompletionDay) (after : AfterOff)
 -- ---- among all days
 
 -- the day of a nurse's search, with the next day's completion bounds
-pub record IsCompletionDayOf (c : Meaning) (n : ℕ) (at : Rates) (d : ℕ) (xs : List Offer) (after : List ℕ)
+pub record IsCompletionDayOf (c : Meaning) (n k : ℕ) (at : Rates) (d : ℕ) (xs : List Offer) (after : List ℕ)
     (x : CompletionDay) : Type 0 where
   pub case : x.case.now ≡ c
   pub nurse : x.nurse ≡ n
+  pub scale : x.scale ≡ k
   pub rates : x.rates ≡ at
   pub day : x.day ≡ d
   pub offers : x.offers.now ≡ xs

@@ -20,7 +20,7 @@ pub struct CompletionBounds<'a> {
     pub days: u16,
     pub ranges: Ranges,
     pub least: u16,
-    pub ghost small: { AreSmallRates rates } by { AreSmallRates-prop rates },
+    pub ghost small: { AreSmallRates search.scale rates } by { AreSmallRates-prop search.scale rates },
     pub ghost under: { AreCompletionBoundsOf search rates cells.now },
     pub ghost inside: { search_cells search ≤ length cells.now },
     pub ghost all_days: { days ≡ day_count search.case.now },
@@ -31,7 +31,7 @@ pub struct CompletionBounds<'a> {
 impl<'a> CompletionBounds<'a> {
     /// The completion bounds that `set_completion_bounds` has written into the cells.
     pub fn of(search: &SearchInput<'a>, rates: Rates, cells: &'a [u32]) -> CompletionBounds<'a>
-        requires small { AreSmallRates rates }
+        requires small { AreSmallRates search.now.scale rates }
         requires inside { search_cells search.now ≤ length cells.now }
         requires completion_bounds { AreCompletionBoundsOf search.now rates cells.now }
         ensures search { result.search ≡ search.now }

@@ -10,11 +10,12 @@ use crate::completion_bounds::CompletionBounds;
 use roster_rules::weights::ASSIGNMENT;
 use roster_state::State;
 
-/// What turns a completion bound into a lower bound of what the rest of a row costs: the points that
-/// assignments will still cost whatever comes, and what the completion bound charges at the rates.
+/// What turns a completion bound into a lower bound of what the rest of a row costs: what assignments will
+/// still cost whatever comes, and what the completion bound charges at the rates. Both are in the parts of a
+/// point of the search's scale, as completion bounds are.
 #[derive(Clone, Copy)]
 pub struct Adjustment {
-    /// Penalty points for assignments that will be missing.
+    /// What is due for assignments that will be missing.
     pub more: u32,
     /// What the completion bound charges for the assignments and the worked weekends to come.
     pub less: u32,
@@ -40,14 +41,14 @@ pub fn adjustment_for(
     let weekends = weeks.min(completion_bounds.ranges.weekends() - 1 - weekends as u32);
     let missing = (completion_bounds.least as u32).saturating_sub(assignments as u32 + days);
     Adjustment {
-        more: ASSIGNMENT * missing,
+        more: completion_bounds.search.scale * (ASSIGNMENT * missing),
         less: completion_bounds.rates.day * days + completion_bounds.rates.weekend * weekends,
     }
 }
 
-/// What the rest of a row costs at least, in penalty points, from a state before a day on: the completion
-/// bound, plus what assignments still cost whatever comes, less what the completion bound charges at the
-/// rates.
+/// What the rest of a row costs at least, in the parts of a point of the search's scale, from a state
+/// before a day on: the completion bound, plus what assignments still cost whatever comes, less what the
+/// completion bound charges at the rates.
 #[inline(always)]
 pub fn at_least_adjusted(
     completion_bounds: &CompletionBounds<'_>,

@@ -3,7 +3,7 @@
 ghost use Rattle.std.specs.Prelude.{◌≡◌, ◌+◌, ◌*◌, ◌<◌, ◌≤◌, ℕ, length, slice_index_or};
 ghost use Rattle.roster_bundle.specs.Limits.{greatest_u64};
 ghost use Rattle.roster_instance.specs.Meaning.{shift_count};
-ghost use Rattle.roster_offers.specs.Lists.{IsOfferOf};
+ghost use Rattle.roster_offers.specs.Lists.{IsOfferAt};
 ghost use Rattle.roster_state.specs.CompletionLines.{most_completion_bound, most_leave};
 ghost use Rattle.roster_completion.specs.Lines.{AreSet, IsAfterOff, IsEntryAt, IsOffCompletionBound, UnderLines, entry_cost, extensions_of};
 
@@ -84,14 +84,14 @@ fn add_entry(after: &mut AfterOff, day: &CompletionDay<'_, '_>, index: usize)
 
 /// The cost of a shift that begins after a day off, with the completion bound after it.
 fn entry(day: &CompletionDay<'_, '_>, offer: Offer, shift: Shift) -> u32
-    requires offer { IsOfferOf day.now.case.now offer }
+    requires offer { IsOfferAt day.now.case.now day.now.scale offer }
     requires shift { shift.0 < shift_count day.now.case.now }
     ensures cost { result ≤ entry_cost day.now offer shift }
 {
     let working = day.rules.working;
     let way = way_to(day, false, offer, shift);
     let to = (working.cap() as usize).min(1) * day.shift_runs;
-    way.price + WORKING_RUN * working.day_violations(0, true) + day.next[way.index as usize + to]
+    way.price + day.goes_on(WORKING_RUN, working, 0) + day.next[way.index as usize + to]
 }
 
 /// The completion bound after a run of days off.
@@ -103,8 +103,8 @@ fn off_completion_bound(day: &CompletionDay<'_, '_>, after: &AfterOff, run: usiz
 {
     let free = day.rules.free;
     let to = (run + 1).min(free.cap() as usize) * day.shift_runs;
-    let more = FREE_RUN * free.day_violations(run as u32, true);
-    let ended = FREE_RUN * free.day_violations(run as u32, false);
+    let more = day.goes_on(FREE_RUN, free, run as u32);
+    let ended = day.ends(FREE_RUN, free, run as u32);
     let enter = (after.enter + ended).min(MOST_LEAVE);
     enter.min(after.off + more + day.next[to])
 }

@@ -26,7 +26,7 @@ struct Setting<'a> {
     rates: Rates,
     ranges: Ranges,
     count: usize,
-    ghost small: { AreSmallRates rates } by { AreSmallRates-prop rates },
+    ghost small: { AreSmallRates search.scale rates } by { AreSmallRates-prop search.scale rates },
     ghost sizes: { ranges ≡ sizes_of search.case.now search.nurse },
     ghost counted: { count ≡ completion_count ranges },
 }
@@ -40,7 +40,7 @@ pub fn set_completion_bounds(
     completion_bounds: &mut [u32],
     meter: &mut Meter,
 ) -> bool
-    requires small { AreSmallRates rates }
+    requires small { AreSmallRates search.now.scale rates }
     requires room { meter.old + search_extensions search.now ≤ greatest_u64 }
     ensures completion_bounds { result ≡ true → AreCompletionBoundsOf search.now rates
         completion_bounds.new }
@@ -104,12 +104,14 @@ fn completion_day<'a, 'b>(setting: &Setting<'a>, day: u16, next: &'b [u32]) -> C
     requires next { length next.now ≡ setting.now.count }
     requires low { AreLow next.now }
     ensures of { IsCompletionDayOf setting.now.search.case.now setting.now.search.nurse
-        setting.now.rates day (offers_on setting.now.search.offers.now day) next.now result }
+        setting.now.search.scale setting.now.rates day
+        (offers_on setting.now.search.offers.now day) next.now result }
 {
     let search = setting.search;
     CompletionDay {
         case: search.case,
         nurse: search.nurse,
+        scale: search.scale,
         day,
         rules: search.case.contract_rules(search.nurse),
         rates: setting.rates,
@@ -130,8 +132,9 @@ fn set_before(setting: &Setting<'_>, day: u16, completion_bounds: &mut [u32], me
         completion_bounds.old }
     requires extensions { meter.old + setting.now.count
         * length (offers_on setting.now.search.offers.now day) ≤ greatest_u64 }
-    ensures under { LieUnder setting.now.search.case.now setting.now.search.nurse setting.now.rates
-        (offers_on setting.now.search.offers.now) completion_bounds.new day }
+    ensures under { LieUnder setting.now.search.case.now setting.now.search.nurse
+        setting.now.search.scale setting.now.rates (offers_on setting.now.search.offers.now)
+        completion_bounds.new day }
     ensures kept { AreKeptFrom
         (day * setting.now.count + setting.now.count) completion_bounds.old completion_bounds.new }
     ensures low { AreLowFrom (day * setting.now.count) setting.now.count completion_bounds.new }

@@ -3,14 +3,15 @@
 ghost use Rattle.std.specs.Prelude.{◌≡◌, ◌+◌, ◌*◌, ◌<◌, ◌≤◌, length};
 ghost use Rattle.roster_bundle.specs.Limits.{greatest_u64};
 ghost use Rattle.roster_instance.specs.Meaning.{run_of_shift, shift_count};
-ghost use Rattle.roster_state.specs.CompletionLines.{most_completion_bound, most_leave};
+ghost use Rattle.roster_rules.specs.Weights.{shift_run_weight};
+ghost use Rattle.roster_state.specs.CompletionLines.{most_completion_bound, most_leave, most_weight};
 ghost use Rattle.roster_completion.specs.Lines.{AreOnward, AreSet, IsAfterShift, IsLeave, IsUnderWays, UnderLine, UnderLines, extensions_of, work_ends, work_goes_on};
 
 use crate::completion_day::CompletionDay;
 use crate::ways::{MOST_LEAVE, Onward, Ways, least_way, ways_after};
 use roster_instance::Shift;
 use roster_offers::MOST_OFFERS;
-use roster_rules::weights::{FREE_RUN, WORKING_RUN};
+use roster_rules::weights::{FREE_RUN, SHIFT_RUN, WORKING_RUN};
 use roster_state::{LineCosts, Meter, fill_line, set_line};
 
 /// What can follow a last shift: the ways on, and what a day off costs with the completion bound after it.
@@ -67,7 +68,7 @@ fn after_shift(
     AfterShift {
         last,
         ways,
-        off: ways.off + FREE_RUN * free.day_violations(0, true) + day.next[first],
+        off: ways.off + day.goes_on(FREE_RUN, free, 0) + day.next[first],
     }
 }
 
@@ -112,18 +113,21 @@ fn run_costs(day: &CompletionDay<'_, '_>, after: &AfterShift, run: usize) -> Lin
     ensures met { IsLeave day.now after.now run result.leave }
     ensures stay { result.stay ≡ after.now.ways.stay + work_goes_on day.now run }
     ensures run { result.run ≡ run_of_shift day.now.case.now after.now.last.0 }
+    ensures weight { result.weight ≡ day.now.scale * shift_run_weight }
     ensures within { (result.leave ≤ most_leave) × (result.stay ≤ most_completion_bound) }
+    ensures light { result.weight ≤ most_weight }
 {
     let working = day.rules.working;
     let most = working.cap() as usize;
     let to = (run + 1).min(most) * day.shift_runs;
-    let more = WORKING_RUN * working.day_violations(run as u32, true);
-    let ended = WORKING_RUN * working.day_violations(run as u32, false);
+    let more = day.goes_on(WORKING_RUN, working, run as u32);
+    let ended = day.ends(WORKING_RUN, working, run as u32);
     let others = least_way(&after.ways, to, day.next);
     // The run of the shift is no longer than the run of working days, unless that one is at its cap.
     let count = if run < most { run + 1 } else { day.shift_runs };
     LineCosts {
         run: day.case.run_of_shift(after.last),
+        weight: day.parts(SHIFT_RUN),
         leave: (others + more).min(after.off + ended).min(MOST_LEAVE),
         stay: after.ways.stay + more,
         count,

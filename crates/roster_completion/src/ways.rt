@@ -1,9 +1,9 @@
 //! The ways to go on from a last shift.
 
-ghost use Rattle.std.specs.Prelude.{◌≡◌, ◌+◌, ◌<◌, ◌≤◌, ℕ, length};
+ghost use Rattle.std.specs.Prelude.{◌≡◌, ◌+◌, ◌*◌, ◌<◌, ◌≤◌, ℕ, length};
 ghost use Rattle.roster_instance.specs.Choices.{shift_of};
 ghost use Rattle.roster_instance.specs.Meaning.{shift_count};
-ghost use Rattle.roster_offers.specs.Lists.{IsOfferOf, most_price};
+ghost use Rattle.roster_offers.specs.Lists.{IsOfferAt, most_price_at};
 ghost use Rattle.roster_state.specs.CompletionLines.{AreLow, most_leave};
 ghost use Rattle.roster_completion.specs.Lines.{AreOnward, AreOpen, AreWays, IsLeastWay, IsOnward, IsOpenWay, IsWayAt, IsWayOf, apart_of, way_at, way_cost};
 
@@ -13,10 +13,10 @@ use roster_offers::{MOST_OFFERS, Offer};
 use roster_rules::weights::{SHIFT_RUN, SPLIT};
 use roster_rules::{splits_more, weekends_more};
 
-/// The greatest cost of a day and of what comes after it, as completion bounds count it. Together with what
-/// the run of a shift misses, a completion bound is at most 714,740,250. This is within the range of labels,
-/// as it must be, since a completion bound is the label of a coarser state.
-pub(crate) const MOST_LEAVE: u32 = 713_691_674;
+/// The greatest cost of a day and of what comes after it, as completion bounds count it: what is more counts
+/// as this, which only makes a completion bound lower. No row costs more at the scale of a search. What the
+/// run of a shift misses at the greatest scale comes to it, which makes 1,199,570,944 at most.
+pub(crate) const MOST_LEAVE: u32 = 1_073_741_824;
 
 /// Going on with another shift: what it costs when that shift begins, whatever the run of working days, and
 /// the index of the first completion bound after it.
@@ -68,7 +68,7 @@ pub(crate) fn onwards(day: &CompletionDay<'_, '_>) -> [Onward; MOST_OFFERS]
 /// What an offer costs after a worked day.
 #[inline(always)]
 fn of_offer(day: &CompletionDay<'_, '_>, offer: Offer) -> Onward
-    requires offer { IsOfferOf day.now.case.now offer }
+    requires offer { IsOfferAt day.now.case.now day.now.scale offer }
     ensures onward { IsOnward day.now result offer (shift_of offer.choice) }
     ensures open { IsOpenWay day.now result.way }
 {
@@ -140,7 +140,7 @@ fn add_way(
 /// The way on with a shift that begins after a worked day or a day off.
 #[inline(always)]
 pub(crate) fn way_to(day: &CompletionDay<'_, '_>, before: bool, offer: Offer, shift: Shift) -> Way
-    requires offer { IsOfferOf day.now.case.now offer }
+    requires offer { IsOfferAt day.now.case.now day.now.scale offer }
     requires shift { shift.0 < shift_count day.now.case.now }
     ensures way { IsWayOf day.now before offer shift result }
     ensures open { IsOpenWay day.now result }
@@ -148,7 +148,7 @@ pub(crate) fn way_to(day: &CompletionDay<'_, '_>, before: bool, offer: Offer, sh
     let run = day.case.run_of_shift(shift);
     let index = (shift.0 as usize + 1) * day.runs * day.shift_runs + (run.cap() as usize).min(1);
     Way {
-        price: apart(day, before, offer) + SHIFT_RUN * run.day_violations(0, true),
+        price: apart(day, before, offer) + day.goes_on(SHIFT_RUN, run, 0),
         index: index as u32,
     }
 }
@@ -156,13 +156,13 @@ pub(crate) fn way_to(day: &CompletionDay<'_, '_>, before: bool, offer: Offer, sh
 /// An offer's price with what doesn't depend on the runs, after a worked day or a day off.
 #[inline(always)]
 pub(crate) fn apart(day: &CompletionDay<'_, '_>, before: bool, offer: Offer) -> u32
-    requires offer { IsOfferOf day.now.case.now offer }
+    requires offer { IsOfferAt day.now.case.now day.now.scale offer }
     ensures cost { result ≡ apart_of day.now before offer }
-    ensures within { result ≤ most_price + 80 }
+    ensures within { result ≤ most_price_at day.now.scale + 80 * day.now.scale }
 {
     let now = offer.choice.shift().is_some();
     let split = if day.rules.whole_weekends {
-        SPLIT * splits_more(day.day, before, now)
+        day.parts(SPLIT * splits_more(day.day, before, now))
     } else {
         0
     };

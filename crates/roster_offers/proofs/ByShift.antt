@@ -14,11 +14,11 @@ use Rattle.roster_instance.specs.Meaning.{Meaning, shift_at, shift_count, skill_
 use Rattle.roster_rules.specs.Prefix.{Summary}
 use Rattle.roster_instance.specs.Rosters.{Rows}
 use Rattle.roster_laws.specs.OneRow.{is_offered, price}
-use Rattle.roster_state.specs.Transition.{transition_of}
+use Rattle.roster_state.specs.Transition.{end_cost_of, transition_of}
 use Rattle.roster_offers.specs.declared.offer.Offer.{Offer}
 use Rattle.roster_offers.specs.Cheapest.{Priced, cheaper, cheapest, raised}
-use Rattle.roster_offers.specs.ByStates.{best_after}
-use Rattle.roster_offers.specs.Offers.{best_of_offers, cheaper_offer, cheapest_by_shift, dearer, in_front, offer_at, offer_transition, offers_by, same_shift, shift_offers}
+use Rattle.roster_offers.specs.ByStates.{Transitions, best_after, best_from}
+use Rattle.roster_offers.specs.Offers.{best_of_offers, best_of_offers_at, cheaper_offer, cheapest_by_shift, dearer, end_cost_at, in_front, offer_at, offers_by, same_shift, scaled, shift_offers}
 use Rattle.roster_offers.proofs.Cheapest.{grouped, keeps_first, takes_second}
 
 -- ---- the same shift
@@ -96,21 +96,30 @@ module _ (x y : Offer) (rest : Summary → Priced (List Offer)) where
       go None = refl
       go (Some q) = takes_second (x.price + t.1 + q.0, x ∷ q.1) (y.price + t.1 + q.0, y ∷ q.1) (omega (arith, h))
 
-module _ (c : Meaning) (n : ℕ) where
-  -- a transition depends on the offer's shift and price alone
-  one_day : (d : ℕ) (s : Summary) (rest : Summary → Priced (List Offer)) (xs : List Offer) → cheapest (λ x. best_after x (offer_transition c n d s x) rest) (cheapest_by_shift xs) ≡ cheapest (λ x. best_after x (offer_transition c n d s x) rest) xs
-  one_day d s rest =
-      let transition : Option Shift → Option (Summary × ℕ) = transition_of c n d s in
-      let f : Offer → Priced (List Offer) = λ x. best_after x (offer_transition c n d s x) rest in
-      cheapest_same f
-      (λ x y e h. subst (λ (o : Option Shift). cheaper (f x) (best_after y (dearer y.price (transition o)) rest) ≡ f x) e (cheaper_first x y rest h (transition (shift x))))
-      (λ x y e h. subst (λ (o : Option Shift). cheaper (f x) (best_after y (dearer y.price (transition o)) rest) ≡ best_after y (dearer y.price (transition o)) rest) e (cheaper_second x y rest h (transition (shift x))))
+module _ (step : ℕ → Summary → Option Shift → Option (Summary × ℕ)) (finish : Summary → ℕ) where
+  -- a transition that depends on the offer's shift and price alone
+  abbrev by_step : Transitions Summary Offer
+  by_step d s x = dearer x.price (step d s (shift x))
 
+  one_day : (d : ℕ) (s : Summary) (rest : Summary → Priced (List Offer)) (xs : List Offer) → cheapest (λ x. best_after x (by_step d s x) rest) (cheapest_by_shift xs) ≡ cheapest (λ x. best_after x (by_step d s x) rest) xs
+  one_day d s rest =
+      let f : Offer → Priced (List Offer) = λ x. best_after x (by_step d s x) rest in
+      cheapest_same f
+      (λ x y e h. subst (λ (o : Option Shift). cheaper (f x) (best_after y (dearer y.price (step d s o)) rest) ≡ f x) e (cheaper_first x y rest h (step d s (shift x))))
+      (λ x y e h. subst (λ (o : Option Shift). cheaper (f x) (best_after y (dearer y.price (step d s o)) rest) ≡ best_after y (dearer y.price (step d s o)) rest) e (cheaper_second x y rest h (step d s (shift x))))
+
+  by_shift_of : (offers : ℕ → List Offer) (m d : ℕ) (s : Summary) → best_from (λ day. cheapest_by_shift (offers day)) by_step finish m d s ≡ best_from offers by_step finish m d s
+  by_shift_of offers zero d s = refl
+  by_shift_of offers (suc m) d s =
+      one_day d s (best_from (λ day. cheapest_by_shift (offers day)) by_step finish m (suc d)) (offers d)
+      ∙ (λ i. cheapest (λ x. best_after x (by_step d s x) (λ t. by_shift_of offers m (suc d) t i)) (offers d))
+
+module _ (c : Meaning) (n : ℕ) where
   pub best_by_shift : (offers : ℕ → List Offer) (m d : ℕ) (s : Summary) → best_of_offers c n (λ day. cheapest_by_shift (offers day)) m d s ≡ best_of_offers c n offers m d s
-  best_by_shift offers zero d s = refl
-  best_by_shift offers (suc m) d s =
-      one_day d s (best_of_offers c n (λ day. cheapest_by_shift (offers day)) m (suc d)) (offers d)
-      ∙ (λ i. cheapest (λ x. best_after x (offer_transition c n d s x) (λ t. best_by_shift offers m (suc d) t i)) (offers d))
+  best_by_shift offers m d s = by_shift_of (transition_of c n) (end_cost_of c n) offers m d s
+
+  pub best_by_shift_at : (scale : ℕ) (offers : ℕ → List Offer) (m d : ℕ) (s : Summary) → best_of_offers_at c n scale (λ day. cheapest_by_shift (offers day)) m d s ≡ best_of_offers_at c n scale offers m d s
+  best_by_shift_at scale offers m d s = by_shift_of (λ e t o. scaled scale (transition_of c n e t o)) (end_cost_at c n scale) offers m d s
 
 -- ---- each of these is one of all, and they are fewer
 

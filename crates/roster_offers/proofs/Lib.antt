@@ -1,5 +1,6 @@
 pub mod AbleLemmas
 pub mod Cheapest
+pub mod AtOne
 pub mod RowsByStates
 pub mod RowCosts
 pub mod ByOffers
@@ -9,6 +10,7 @@ pub mod ByShift
 pub mod Among
 pub mod ListLaws
 pub mod LowRows
+pub mod ScaleLaws
 pub mod RiseLaws
 pub mod PartLaws
 pub mod WorkspaceLaws

@@ -1,5 +1,5 @@
 -- What the search over offers finds.
-use Rattle.std.specs.Prelude.{◌≡◌, ℕ, ◌+◌, ◌<◌, Bool, true, List, [], ◌∷◌, Some}
+use Rattle.std.specs.Prelude.{◌≡◌, ℕ, ◌+◌, ◌*◌, ◌<◌, Bool, true, List, [], ◌∷◌, Some}
 use Rattle.roster_instance.specs.declared.choice.Choice.{Choice}
 use Rattle.roster_instance.specs.Meaning.{Meaning, day_count}
 use Rattle.roster_instance.specs.Rosters.{Rows, choice_on, row_of}
@@ -8,8 +8,8 @@ use Rattle.roster_rules.specs.Prefix.{due}
 use Rattle.roster_laws.specs.OneRow.{rest_of}
 use Rattle.roster_offers.specs.declared.offer.Offer.{Offer}
 use Rattle.roster_offers.specs.Cheapest.{Priced}
-use Rattle.roster_offers.specs.Lists.{best_over, no_row}
-use Rattle.roster_offers.specs.Offers.{best_by_states, cheapest_by_shift, choices_of, offer_of, offered_rows, offers_by, offers_of, row_cost_at}
+use Rattle.roster_offers.specs.Lists.{best_over, best_over_at, no_row}
+use Rattle.roster_offers.specs.Offers.{best_by_states, cheapest_by_shift, choices_of, offer_of, offered_rows, offers_by, offers_of, row_cost_at, row_cost_in}
 
 -- ---- whatever is offered on each day, and at whatever prices
 
@@ -28,6 +28,26 @@ abbrev pub GivesItsCost : Meaning → ℕ → (ℕ → Choice → Bool) → (ℕ
 GivesItsCost c n offered price =
     (cost : ℕ) (offers : List Offer) → best_offered c n offered price ≡ Some (cost, offers)
     → row_cost_at c n price (choices_of offers) ≡ due c n [] + cost
+
+-- ---- the same at a scale
+
+-- the best row over the cheapest offers for each shift, with its cost
+abbrev pub best_offered_at : Meaning → (n scale : ℕ) → (ℕ → Choice → Bool) → (ℕ → Choice → ℕ)
+    → Priced (List Offer)
+best_offered_at c n scale offered price =
+    best_over_at c n scale (λ d. cheapest_by_shift (offers_by c offered price d))
+
+-- it is the first of the cheapest rows that are offered
+abbrev pub FindsCheapestAt : Meaning → (n scale : ℕ) → (ℕ → Choice → Bool) → (ℕ → Choice → ℕ) → Type 0
+FindsCheapestAt c n scale offered price =
+    (cost : ℕ) (offers : List Offer) → best_offered_at c n scale offered price ≡ Some (cost, offers)
+    → IsFirstLeast (row_cost_in c n scale price) (offered_rows c n offered) (choices_of offers)
+
+-- it costs what the start owes, and the cost that is found
+abbrev pub GivesItsCostAt : Meaning → (n scale : ℕ) → (ℕ → Choice → Bool) → (ℕ → Choice → ℕ) → Type 0
+GivesItsCostAt c n scale offered price =
+    (cost : ℕ) (offers : List Offer) → best_offered_at c n scale offered price ≡ Some (cost, offers)
+    → row_cost_in c n scale price (choices_of offers) ≡ scale * due c n [] + cost
 
 -- ---- what is offered while the other nurses' rows stay
 

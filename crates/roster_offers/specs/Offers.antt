@@ -1,5 +1,5 @@
 -- What is offered to a nurse, each choice with its price, and the search over it from state to state.
-use Rattle.std.specs.Prelude.{◌≡◌, ℕ, ◌+◌, ◌<◌, ◌==◌, ◌&&◌, Bool, true, false, not, nat_lt, if◌then◌else◌, List, [], ◌∷◌, filter, length, map, Option, Some, None, option_map, slice_index_or}
+use Rattle.std.specs.Prelude.{◌≡◌, ℕ, ◌+◌, ◌*◌, ◌<◌, ◌==◌, ◌&&◌, Bool, true, false, not, nat_lt, if◌then◌else◌, List, [], ◌∷◌, filter, length, map, Option, Some, None, option_map, slice_index_or}
 use Rattle.std.specs.List.{list_any, range_with_len}
 use Rattle.roster_instance.specs.declared.choice.Choice.{Choice}
 use Rattle.roster_instance.specs.declared.choice.Choice.TheVariants.{Work}
@@ -134,6 +134,37 @@ offer_transition c n d s offer = dearer offer.price (transition_of c n d s (shif
 -- the best row of m days of these offers, from day d and state s on, with its cost
 abbrev pub best_of_offers : Meaning → ℕ → (ℕ → List Offer) → (m d : ℕ) → Summary → Priced (List Offer)
 best_of_offers c n offers m d s = best_from offers (offer_transition c n) (end_cost_of c n) m d s
+
+-- ---- the same at a scale: prices are in parts of a point, and a point has `scale` parts
+
+-- a transition whose cost is in parts of a point
+abbrev pub scaled : {S : Type 0} → (scale : ℕ) → Option (S × ℕ) → Option (S × ℕ)
+scaled scale transition = option_map (λ t. (t.0, scale * t.1)) transition
+
+-- a day with an offer: its price, and the transition of the nurse's state
+abbrev pub offer_transition_at : Meaning → (n scale : ℕ) → Transitions Summary Offer
+offer_transition_at c n scale d s offer =
+    dearer offer.price (scaled scale (transition_of c n d s (shift_of offer.choice)))
+
+-- what is missing at the end
+abbrev pub end_cost_at : Meaning → (n scale : ℕ) → Summary → ℕ
+end_cost_at c n scale s = scale * end_cost_of c n s
+
+-- the best row of m days of these offers, from day d and state s on, with its cost
+abbrev pub best_of_offers_at : Meaning → (n scale : ℕ) → (ℕ → List Offer) → (m d : ℕ) → Summary
+    → Priced (List Offer)
+best_of_offers_at c n scale offers m d s =
+    best_from offers (offer_transition_at c n scale) (end_cost_at c n scale) m d s
+
+-- what a row costs: its prices, and what the nurse's own rules cost along it
+abbrev pub row_cost_in : Meaning → (n scale : ℕ) → (ℕ → Choice → ℕ) → Row → ℕ
+row_cost_in c n scale price row = scale * own_cost c n (days_of row) + row_prices_by price row
+
+-- at scale 1 the best row is the one in whole points
+abbrev pub IsPlainAtOne : Meaning → ℕ → (ℕ → List Offer) → (m d : ℕ) → Summary → Type 0
+IsPlainAtOne c n offers m d s = best_of_offers_at c n 1 offers m d s ≡ best_of_offers c n offers m d s
+
+-- ---- a nurse's best row
 
 -- the best row of a nurse
 abbrev pub best_by_states : Meaning → ℕ → Rows → ℕ → Priced (List Offer)

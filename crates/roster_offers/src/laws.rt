@@ -5,17 +5,17 @@ ghost use Rattle.std.specs.Prelude.{◌≡◌, ◌+◌, ◌<◌, ◌≤◌, ℕ,
 ghost use Rattle.roster_instance.specs.declared.choice.Choice.{Choice};
 ghost use Rattle.roster_rules.specs.AllowedRows.{is_frozen};
 ghost use Rattle.roster_rules.specs.HardRules.{keeps_hard};
-ghost use Rattle.roster_instance.specs.Limits.{most_days, most_shifts, most_skills};
-ghost use Rattle.roster_instance.specs.Meaning.{Meaning, day_count, nurse_count, shift_count, skill_count};
+ghost use Rattle.roster_instance.specs.Limits.{most_days, most_shifts, most_skills, most_weeks};
+ghost use Rattle.roster_instance.specs.Meaning.{Meaning, day_count, nurse_count, shift_count, skill_count, week_count};
 ghost use Rattle.roster_rules.specs.Prefix.{Summary};
 ghost use Rattle.roster_instance.specs.Rosters.{Row, Rows, fits_case};
 ghost use Rattle.roster_instance.specs.Sizes.{choice_count};
 ghost use Rattle.roster_instance.specs.Small.{HasSmallNumbers, IsSmall};
 ghost use Rattle.roster_offers.specs.ByStates.{Transitions, best_from, cheapest_of_rows};
-ghost use Rattle.roster_offers.specs.Finds.{FindsBestRow, FindsCheapest, FindsLowCost, OffersThePresent, GivesItsCost, GivesThePenalty, best_offered};
-ghost use Rattle.roster_offers.specs.Offers.{best_by_states, best_of_offers, cheapest_by_shift, offered_rows, offers_of, open_offers, shift_offers};
+ghost use Rattle.roster_offers.specs.Finds.{FindsBestRow, FindsCheapest, FindsCheapestAt, FindsLowCost, OffersThePresent, GivesItsCost, GivesItsCostAt, GivesThePenalty, best_offered, best_offered_at};
+ghost use Rattle.roster_offers.specs.Offers.{IsPlainAtOne, best_by_states, best_of_offers, cheapest_by_shift, offered_rows, offers_of, open_offers, shift_offers};
 ghost use Rattle.roster_offers.specs.Rises.{BestCostRises, DaysHaveRisen};
-ghost use Rattle.roster_offers.specs.Lists.{AllAreOffersOf, HasLowLabel, IsOfferOf};
+ghost use Rattle.roster_offers.specs.Lists.{AllAreOffersOf, HasLowLabel, HaveLowLabelsAt, IsOfferOf, IsScaleOf};
 ghost use Rattle.roster_offers.specs.declared.offer.Offer.{Offer};
 
 /// The first of the cheapest of all rows of the days' offers is what the search from state to state gives,
@@ -41,6 +41,18 @@ pub fn cheapest_offered_row_is_found()
         GivesItsCost c n offered price }
 {}
 
+/// The same at any scale, where a row's cost is in parts of a point: its prices, and as many parts as the
+/// scale says for each point that the nurse's own rules cost along it.
+pub fn cheapest_offered_row_is_found_at_a_scale()
+    ensures some { (c : Meaning) (n scale : ℕ) (can : ℕ → Choice → Bool) (price : ℕ → Choice → ℕ)
+        (row : Row) → Contains (offered_rows c n can) row →
+        IsSome (best_offered_at c n scale can price) }
+    ensures least { (c : Meaning) (n scale : ℕ) (can : ℕ → Choice → Bool)
+        (price : ℕ → Choice → ℕ) → FindsCheapestAt c n scale can price }
+    ensures cost { (c : Meaning) (n scale : ℕ) (can : ℕ → Choice → Bool)
+        (price : ℕ → Choice → ℕ) → GivesItsCostAt c n scale can price }
+{}
+
 /// For a roster that fits the case and keeps the hard rules, the search over a nurse's offers gives a row. It
 /// is the nurse's best row, and the roster's penalty with it is the sum of what the other nurses' rows cost,
 /// what the start owes, and the cost that the search gives. In a case with small numbers that cost is below
@@ -62,6 +74,19 @@ pub fn labels_are_low()
     ensures { (c : Meaning) → HasSmallNumbers c → (n : ℕ) (offers : ℕ → List Offer)
         → AllAreOffersOf c offers → (m d : ℕ) → m ≤ most_days → (s : Summary)
         → HasLowLabel (best_of_offers c n offers m d s) }
+{}
+
+/// The same at a scale, where labels are in parts of a point: from a day of the case on a label is at most
+/// `most_label_at`, below what stands for no row.
+pub fn scaled_labels_are_low()
+    ensures { (c : Meaning) → HasSmallNumbers c → week_count c ≤ most_weeks → (n scale : ℕ) →
+        IsScaleOf c scale → (offers : ℕ → List Offer) → HaveLowLabelsAt c n scale offers }
+{}
+
+/// At scale 1 the search is the one in whole points.
+pub fn scale_one_is_plain()
+    ensures { (c : Meaning) (n : ℕ) (offers : ℕ → List Offer) (m d : ℕ) (s : Summary) →
+        IsPlainAtOne c n offers m d s }
 {}
 
 /// The offers of a day are choices of the case at small prices, and no more than the nurse has choices. For a

@@ -5,11 +5,15 @@
 //! `Workspace` is what such a search writes into; what fits into one is defined in `specs/Workspaces.antt`.
 //!
 //! The first of the cheapest is defined in `specs/Cheapest.antt`, rows that lead from state to state in
-//! `specs/ByStates.antt`, what a nurse is offered on a day in `specs/Offers.antt`, and the lists over which a
-//! search goes, with what it finds, in `specs/Lists.antt`. `best_row_is_found_by_states` promises that such a
-//! search gives the nurse's best row, `one_offer_for_each_shift_is_enough` that it may skip the dearer offers
-//! for one shift, `cheapest_offered_row_is_found` what it finds whatever is offered at whatever prices, and
-//! `cost_rises_with_prices` how far its cost can fall after prices have changed (`specs/Rises.antt`).
+//! `specs/ByStates.antt`, what a nurse is offered on a day in `specs/Offers.antt`, and the lists over which
+//! a search goes, with what it finds, in `specs/Lists.antt`. `best_row_is_found_by_states` promises that
+//! such a search gives the nurse's best row, `one_offer_for_each_shift_is_enough` that it may skip the
+//! dearer offers for one shift, `cheapest_offered_row_is_found` what it finds whatever is offered at
+//! whatever prices, and `cost_rises_with_prices` how far its cost can fall after prices have changed
+//! (`specs/Rises.antt`). A search may also count in parts of a point, at a scale:
+//! `cheapest_offered_row_is_found_at_a_scale` promises what it finds, `scaled_labels_are_low` that its
+//! labels are in range, and `scale_one_is_plain` that at scale 1 it is the same search. `greatest_scale` is
+//! the greatest scale that a case allows.
 //!
 //! `Offering` decides which choices are offered at which prices; `offers_of_choices` and `offers_by_shift`
 //! give all that it offers on a day, and for each shift the first of the cheapest (`offers_open`,
@@ -25,16 +29,20 @@ mod laws;
 mod lists;
 mod offer;
 mod requests;
+mod scale;
 mod workspace;
 
 pub use by_shift::cheapest_by_shift;
 pub use day::{NurseDay, Offering, offers_by_shift, offers_of_choices};
 pub use days::{OffersDays, put_offers};
 pub use laws::{
-    best_row_is_found_by_states, cheapest_offered_row_is_found, cheapest_row_is_found_by_states,
-    cost_rises_with_prices, offers_are_few, one_offer_for_each_shift_is_enough,
+    best_row_is_found_by_states, cheapest_offered_row_is_found,
+    cheapest_offered_row_is_found_at_a_scale, cheapest_row_is_found_by_states,
+    cost_rises_with_prices, offers_are_few, one_offer_for_each_shift_is_enough, scale_one_is_plain,
+    scaled_labels_are_low,
 };
 pub use lists::{DayOffers, MOST_DAYS, SearchInput};
 pub use offer::{MOST_CHOICES, MOST_OFFERS, Offer};
 pub use requests::request_cost;
+pub use scale::greatest_scale;
 pub use workspace::{BestFault, SearchesRows, Workspace, most_search_extensions};

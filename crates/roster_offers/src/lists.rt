@@ -2,7 +2,7 @@
 
 ghost use Rattle.std.specs.Prelude.{◌<◌};
 ghost use Rattle.roster_instance.specs.Meaning.{nurse_count};
-ghost use Rattle.roster_offers.specs.Lists.{AreOffers};
+ghost use Rattle.roster_offers.specs.Lists.{AreOffersAt, IsScaleOf};
 
 use crate::offer::{MOST_OFFERS, Offer};
 use arrayvec::ArrayVec;
@@ -15,12 +15,15 @@ pub const MOST_DAYS: usize = 364;
 /// often keeps one.
 pub type DayOffers = ArrayVec<ArrayVec<Offer, MOST_OFFERS>, MOST_DAYS>;
 
-/// The input of a search: a nurse of a case, and for each day what the nurse is offered.
+/// The input of a search: a nurse of a case, and for each day what the nurse is offered. Prices, and the cost
+/// of a row, are in parts of a point: a point has as many as the scale says, one at scale 1.
 #[derive(Clone, Copy)]
 pub struct SearchInput<'a> {
     pub case: &'a Case,
     pub nurse: usize,
+    pub scale: u32,
     pub offers: &'a [ArrayVec<Offer, MOST_OFFERS>],
     pub ghost in_case: { nurse < nurse_count case.now },
-    pub ghost for_nurse: { AreOffers case.now nurse offers.now },
+    pub ghost in_scale: { IsScaleOf case.now scale },
+    pub ghost for_nurse: { AreOffersAt case.now nurse scale offers.now },
 }

@@ -6,7 +6,7 @@ ghost use Rattle.roster_instance.specs.Limits.{most_days, most_shifts, most_skil
 ghost use Rattle.roster_instance.specs.Meaning.{Meaning, day_count, nurse_count};
 ghost use Rattle.roster_laws.specs.Greatest.{extension_count, greatest_state_count};
 ghost use Rattle.roster_offers.specs.declared.offer.Offer.{Offer};
-ghost use Rattle.roster_offers.specs.Lists.{AreOffers, IsFound, best_over, no_row, offers_on};
+ghost use Rattle.roster_offers.specs.Lists.{AreOffers, AreOffersAt, IsFound, IsScaleOf, best_over, best_over_at, no_row, offers_on};
 ghost use Rattle.roster_offers.specs.Workspaces.{HasTables, SameCapacity, TableCapacity, fits_space};
 
 use crate::lists::{DayOffers, SearchInput};
@@ -52,9 +52,10 @@ pub trait SearchesRows: Drop {
 
     /// Searches the best row over a table of offers, wherever these come from. `row` then begins with its
     /// choices, one for each day, and the result is its cost: its prices, and what the nurse's own rules cost
-    /// along it, without what the start owes. The search takes no memory.
+    /// along it, without what the start owes, in the parts of a point of the search's scale. The search takes
+    /// no memory.
     fn search(&mut self, search: &SearchInput<'_>, row: &mut [Choice], meter: &mut Meter) -> u32
-        requires some { IsSome (best_over search.now.case.now search.now.nurse
+        requires some { IsSome (best_over_at search.now.case.now search.now.nurse search.now.scale
             (offers_on search.now.offers.now)) }
         requires tables { HasTables search.now.case.now search.now.nurse (capacity self.old) }
         requires row_capacity { day_count search.now.case.now ≤ length row.old }
@@ -62,9 +63,9 @@ pub trait SearchesRows: Drop {
             search.now.nurse ≤ greatest_u64 }
 
         // The row, and its cost.
-        ensures best { IsFound (best_over search.now.case.now search.now.nurse
-            (offers_on search.now.offers.now)) result (take (day_count search.now.case.now)
-            row.new) }
+        ensures best { IsFound (best_over_at search.now.case.now search.now.nurse
+            search.now.scale (offers_on search.now.offers.now)) result
+            (take (day_count search.now.case.now) row.new) }
         ensures below { result < no_row }
         ensures length { length row.new ≡ length row.old }
 
@@ -240,9 +241,38 @@ impl<T: SearchesRows> Workspace<T> {
         ensures fits { fits_space case.now self.new ≡ true }
         ensures offers { self.new.offers ≡ self.old.offers }
     {
+        case.keeps_limits();
+        self.search_at(case, nurse, 1, meter)
+    }
+
+    /// The same at a scale: the prices that were put in, and the result, are in parts of a point, and a point
+    /// has as many parts as the scale says.
+    pub fn search_at(&mut self, case: &Case, nurse: usize, scale: u32, meter: &mut Meter) -> u32
+        requires nurse { nurse < nurse_count case.now }
+        requires scale { IsScaleOf case.now scale }
+        requires offers { AreOffersAt case.now nurse scale self.old.offers }
+        requires some { IsSome (best_over_at case.now nurse scale (offers_on self.old.offers)) }
+        requires fits { fits_space case.now self.old ≡ true }
+        requires room { meter.old + extension_count case.now nurse ≤ greatest_u64 }
+
+        // The row, and its cost.
+        ensures best { IsFound (best_over_at case.now nurse scale (offers_on self.old.offers))
+            result self.new.row }
+        ensures below { result < no_row }
+
+        // What it takes.
+        ensures each_day { meter.old + day_count case.now ≤ meter.new }
+        ensures counted { meter.new ≤ meter.old + extension_count case.now nurse }
+        ensures are_reachable { T.IsCounted case.now nurse (offers_on self.old.offers) meter.old
+            meter.new }
+        ensures same_capacity { SameCapacity self.old self.new }
+        ensures fits { fits_space case.now self.new ≡ true }
+        ensures offers { self.new.offers ≡ self.old.offers }
+    {
         let search = SearchInput {
             case,
             nurse,
+            scale,
             offers: self.offers.as_slice(),
         };
         let cost = self.tables.search(&search, &mut self.choices, meter);

@@ -7,7 +7,7 @@ use Rattle.roster_instance.specs.Meaning.{day_count}
 use Rattle.roster_offers.specs.declared.offer.Offer.{Offer}
 use Rattle.roster_offers.specs.ByStates.{best_after}
 use Rattle.roster_offers.specs.Cheapest.{Priced, cheaper, cheapest, raised}
-use Rattle.roster_offers.specs.Offers.{best_of_offers, offer_transition}
+use Rattle.roster_offers.specs.Offers.{best_of_offers_at, offer_transition_at}
 use Rattle.roster_offers.proofs.Cheapest.{cheaper_none, cheapest_raised, grouped}
 use Rattle.roster_partial.specs.declared.limited.LimitedSearch.{LimitedSearch}
 use Rattle.roster_partial.specs.declared.rows.Entry.{Entry}
@@ -43,7 +43,7 @@ by_each_offer : (days : Days) (d : ℕ) (e : Entry) → cheapest (best_by days d
 unfolding best_of best_by
 by_each_offer days d e =
     let onward : List Offer → List Offer = λ rest. offers_to days.offers days.earlier d e ++ rest in
-    let after : Offer → Priced (List Offer) = λ x. best_after x (offer_transition days.case days.nurse d e.state x) (best_of_offers days.case days.nurse days.offers days.left (suc d)) in
+    let after : Offer → Priced (List Offer) = λ x. best_after x (offer_transition_at days.case days.nurse days.scale d e.state x) (best_of_offers_at days.case days.nurse days.scale days.offers days.left (suc d)) in
     sym (within_cheapest days.limit (λ x. raised e.cost onward (after x)) (days.offers d)) ∙ ap (within days.limit) (cheapest_raised e.cost onward after (days.offers d))
 
 -- the best row that begins with the partial row is that of the day after, by one of the offers
@@ -66,7 +66,7 @@ module _ (offers : ℕ → List Offer) (xs ys : List Entry) (same : (k : ℕ) �
 module _ (days : Days) (ys : List Entry) (same : (k : ℕ) → k < length days.earlier → entry_numbered days.earlier k ≡ entry_numbered ys k) where
   best_further : (e : Entry) → IsEntryOf days e → best_of days e ≡ best_of (record days { earlier = ys }) e
   unfolding best_of
-  best_further e is = ap (λ before. within days.limit (raised e.cost (λ rest. before ++ rest) (best_of_offers days.case days.nurse days.offers days.left days.day e.state))) (same_offers_to days.offers days.earlier ys same days.day e is.linked)
+  best_further e is = ap (λ before. within days.limit (raised e.cost (λ rest. before ++ rest) (best_of_offers_at days.case days.nurse days.scale days.offers days.left days.day e.state))) (same_offers_to days.offers days.earlier ys same days.day e is.linked)
 
   entry_further : length days.earlier ≤ length ys → (e : Entry) → IsEntryOf days e → IsEntryOf (record days { earlier = ys }) e
   entry_further longer e is = record { fits = is.fits; linked = linked_further days.offers days.earlier ys same longer days.day e is.linked }

@@ -12,7 +12,7 @@ use Rattle.roster_offers.specs.declared.offer.Offer.{Offer}
 use Rattle.roster_offers.proofs.Cheapest.{cheaper_none, cheapest_more}
 use Rattle.roster_partial.specs.Allowed.{MayFollow}
 use Rattle.roster_state.specs.Transition.{next_of, transition_cost}
-use Rattle.roster_offers.specs.Offers.{dearer}
+use Rattle.roster_offers.specs.Offers.{dearer, scaled}
 use Rattle.roster_partial.specs.declared.rows.Entry.{Entry}
 use Rattle.roster_partial.specs.Rows.{Days, best_by, offer_numbered}
 use Rattle.roster_partial.proofs.TransitionLaws.{by_forbidden}
@@ -81,7 +81,7 @@ look_some before after size (Some indices) listed = refl
 pub none_by_forbidden : (days : Days) (d : ℕ) (e : Entry) (x : Offer) → forbids days.case.successions e.state.last (shift_of x.choice) ≡ true → best_by days d e x ≡ None
 none_by_forbidden days d e x forbidden =
     let shift = shift_of x.choice in
-    by_forbidden days d e x (λ i. dearer x.price (if forbidden i then None else Some (next_of days.case days.nurse d e.state shift, transition_cost days.case days.nurse d e.state shift)))
+    by_forbidden days d e x (λ i. dearer x.price (scaled days.scale (if forbidden i then None else Some (next_of days.case days.nurse d e.state shift, transition_cost days.case days.nurse d e.state shift))))
 
 -- the cheapest by the allowed offers is the cheapest by all
 pub by_allowed : (days : Days) (d : ℕ) (e : Entry) (offers : List Offer) (indices : List ℕ) (next : ℕ) → MayFollow days.case e.state.last offers indices → length indices ≤ next → cheapest (best_by days d e) (take next (map (offer_numbered offers) indices)) ≡ cheapest (best_by days d e) offers

@@ -6,11 +6,10 @@ use Rattle.roster_instance.specs.declared.choice.Choice.{Choice}
 use Rattle.roster_instance.specs.Meaning.{day_count}
 use Rattle.roster_instance.specs.Rosters.{Row}
 use Rattle.roster_rules.specs.Prefix.{summary_of}
-use Rattle.roster_state.specs.Transition.{end_cost_of}
 use Rattle.roster_offers.specs.declared.offer.Offer.{Offer}
 use Rattle.roster_offers.specs.Cheapest.{Priced, cheaper, raised}
-use Rattle.roster_offers.specs.Offers.{best_of_offers, choices_of}
-use Rattle.roster_offers.specs.Lists.{best_over, offers_on}
+use Rattle.roster_offers.specs.Offers.{best_of_offers_at, choices_of, end_cost_at}
+use Rattle.roster_offers.specs.Lists.{best_over_at, offers_on}
 use Rattle.roster_offers.proofs.Cheapest.{keeps_first, takes_second}
 use Rattle.roster_partial.specs.declared.limited.LimitedSearch.{LimitedSearch}
 use Rattle.roster_partial.specs.declared.rows.Entry.{Entry}
@@ -24,29 +23,31 @@ unchanged None = refl
 unchanged (Some p) = ap (λ cost. Some (cost, p.1)) (omega arith)
 
 -- each row begins with it
-pub best_at_start : (limited : LimitedSearch) (e : Entry) → e.state ≡ summary_of limited.completion_bounds.search.case.now limited.completion_bounds.search.nurse [] → e.cost ≡ 0 → best_of (days_on limited 0 []) e ≡ within limited.limit (best_over limited.completion_bounds.search.case.now limited.completion_bounds.search.nurse (offers_on limited.completion_bounds.search.offers.now))
+pub best_at_start : (limited : LimitedSearch) (e : Entry) → e.state ≡ summary_of limited.completion_bounds.search.case.now limited.completion_bounds.search.nurse [] → e.cost ≡ 0 → best_of (days_on limited 0 []) e ≡ within limited.limit (best_over_at limited.completion_bounds.search.case.now limited.completion_bounds.search.nurse limited.completion_bounds.search.scale (offers_on limited.completion_bounds.search.offers.now))
 unfolding best_of
 best_at_start limited e state cost =
     let c = limited.completion_bounds.search.case.now in
     let n = limited.completion_bounds.search.nurse in
+    let scale = limited.completion_bounds.search.scale in
     let offers = offers_on limited.completion_bounds.search.offers.now in
     let all : day_count c - 0 ≡ day_count c = omega arith in
-    (λ i. within limited.limit (raised (cost i) (λ rest. rest) (best_of_offers c n offers (all i) 0 (state i))))
-    ∙ ap (within limited.limit) (unchanged (best_over c n offers))
+    (λ i. within limited.limit (raised (cost i) (λ rest. rest) (best_of_offers_at c n scale offers (all i) 0 (state i))))
+    ∙ ap (within limited.limit) (unchanged (best_over_at c n scale offers))
 
 -- ---- in the end
 
 -- a partial row of all days is a row, whose cost is its cost and what is owed in the end
-pub best_at_last : (limited : LimitedSearch) (earlier : List Entry) (e : Entry) → best_of (days_on limited (day_count limited.completion_bounds.search.case.now) earlier) e ≡ within limited.limit (Some (e.cost + end_cost_of limited.completion_bounds.search.case.now limited.completion_bounds.search.nurse e.state, offers_to (offers_on limited.completion_bounds.search.offers.now) earlier (day_count limited.completion_bounds.search.case.now) e))
+pub best_at_last : (limited : LimitedSearch) (earlier : List Entry) (e : Entry) → best_of (days_on limited (day_count limited.completion_bounds.search.case.now) earlier) e ≡ within limited.limit (Some (e.cost + end_cost_at limited.completion_bounds.search.case.now limited.completion_bounds.search.nurse limited.completion_bounds.search.scale e.state, offers_to (offers_on limited.completion_bounds.search.offers.now) earlier (day_count limited.completion_bounds.search.case.now) e))
 unfolding best_of
 best_at_last limited earlier e =
     let c = limited.completion_bounds.search.case.now in
     let n = limited.completion_bounds.search.nurse in
+    let scale = limited.completion_bounds.search.scale in
     let offers = offers_on limited.completion_bounds.search.offers.now in
     let row = offers_to offers earlier (day_count c) e in
     let none : day_count c - day_count c ≡ 0 = omega arith in
-    (λ i. within limited.limit (raised e.cost (λ rest. row ++ rest) (best_of_offers c n offers (none i) (day_count c) e.state)))
-    ∙ ap (λ xs. within limited.limit (Some (e.cost + end_cost_of c n e.state, xs))) (append-nil row)
+    (λ i. within limited.limit (raised e.cost (λ rest. row ++ rest) (best_of_offers_at c n scale offers (none i) (day_count c) e.state)))
+    ∙ ap (λ xs. within limited.limit (Some (e.cost + end_cost_at c n scale e.state, xs))) (append-nil row)
 
 -- the first of the cheapest of some entries is given by its cost and its index
 module _ {X : Type 0} (row : ℕ → X) where

@@ -4,7 +4,7 @@ use Rattle.std.proofs.lemmas.Bool.{cases_lt, lt-ltb, le-ltb}
 use Rattle.roster_state.specs.Codes.{fits_sizes, sizes_of}
 use Rattle.roster_offers.specs.declared.offer.Offer.{Offer}
 use Rattle.roster_offers.specs.Cheapest.{Priced, cheaper, cheapest, raised}
-use Rattle.roster_offers.specs.Offers.{best_of_offers}
+use Rattle.roster_offers.specs.Offers.{best_of_offers_at}
 use Rattle.roster_offers.proofs.Cheapest.{cheaper_none, cheapest_both, cost_or, keeps_first, takes_second}
 use Rattle.roster_partial.specs.declared.rows.Entry.{Entry}
 use Rattle.std.proofs.Math.Path.{transport}
@@ -108,7 +108,7 @@ module _ {X : Type 0} (limit : ℕ) where
 -- an entry whose own cost is above the limit is pruned
 pub pruned_is_none : (days : Days) (e : Entry) → days.limit < e.cost → best_of days e ≡ None
 unfolding best_of
-pruned_is_none days e pruned = go (best_of_offers days.case days.nurse days.offers days.left days.day e.state)
+pruned_is_none days e pruned = go (best_of_offers_at days.case days.nurse days.scale days.offers days.left days.day e.state)
   where
     go : (o : Priced (List Offer)) → within days.limit (raised e.cost (λ rest. (row_of days e).offers ++ rest) o) ≡ None
     go None = refl
@@ -118,7 +118,7 @@ pruned_is_none days e pruned = go (best_of_offers days.case days.nurse days.offe
 pub same_dominates : (days : Days) (more : ℕ) (one other : Entry) → one.state ≡ other.state → one.cost + more ≤ other.cost → Dominates more (best_of days one) (best_of days other)
 unfolding best_of
 same_dominates days more one other same low y is =
-    by (best_of_offers days.case days.nurse days.offers days.left days.day other.state) (best_of_offers days.case days.nurse days.offers days.left days.day one.state) (ap (best_of_offers days.case days.nurse days.offers days.left days.day) same) (is_within days.limit (raised other.cost (λ rest. (row_of days other).offers ++ rest) (best_of_offers days.case days.nurse days.offers days.left days.day other.state)) y is)
+    by (best_of_offers_at days.case days.nurse days.scale days.offers days.left days.day other.state) (best_of_offers_at days.case days.nurse days.scale days.offers days.left days.day one.state) (ap (best_of_offers_at days.case days.nurse days.scale days.offers days.left days.day) same) (is_within days.limit (raised other.cost (λ rest. (row_of days other).offers ++ rest) (best_of_offers_at days.case days.nurse days.scale days.offers days.left days.day other.state)) y is)
   where
     Found : Priced (List Offer) → Type 0
     Found mine = (x : ℕ × List Offer) × (within days.limit (raised one.cost (λ rest. (row_of days one).offers ++ rest) mine) ≡ Some x) × (x.0 + more ≤ y.0)

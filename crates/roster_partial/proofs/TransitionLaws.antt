@@ -5,7 +5,7 @@ use Rattle.roster_rules.specs.Prefix.{Summary}
 use Rattle.roster_offers.specs.declared.offer.Offer.{Offer}
 use Rattle.roster_offers.specs.ByStates.{best_after}
 use Rattle.roster_offers.specs.Cheapest.{Priced, raised}
-use Rattle.roster_offers.specs.Offers.{best_of_offers, dearer, offer_transition}
+use Rattle.roster_offers.specs.Offers.{best_of_offers_at, dearer, offer_transition_at, scaled}
 use Rattle.roster_offers.specs.Lists.{offers_on}
 use Rattle.roster_instance.specs.Choices.{shift_of}
 use Rattle.roster_instance.specs.Meaning.{Meaning}
@@ -25,18 +25,18 @@ raised_by_one cost more front x (Some p) =
 
 module _ (days : Days) (d : ℕ) (e : Entry) (x : Offer) where
   -- if the transition is forbidden
-  pub by_forbidden : offer_transition days.case days.nurse d e.state x ≡ None → best_by days d e x ≡ None
+  pub by_forbidden : offer_transition_at days.case days.nurse days.scale d e.state x ≡ None → best_by days d e x ≡ None
   unfolding best_by
-  by_forbidden none = ap (λ transition. within days.limit (raised e.cost (λ rest. offers_to days.offers days.earlier d e ++ rest) (best_after x transition (best_of_offers days.case days.nurse days.offers days.left (suc d))))) none
+  by_forbidden none = ap (λ transition. within days.limit (raised e.cost (λ rest. offers_to days.offers days.earlier d e ++ rest) (best_after x transition (best_of_offers_at days.case days.nurse days.scale days.offers days.left (suc d))))) none
 
-  module _ (t : Summary) (cost : ℕ) (is : offer_transition days.case days.nurse d e.state x ≡ Some (t, cost)) where
-    by_transition : best_by days d e x ≡ within days.limit (raised e.cost (λ rest. offers_to days.offers days.earlier d e ++ rest) (raised cost (λ xs. x ∷ xs) (best_of_offers days.case days.nurse days.offers days.left (suc d) t)))
+  module _ (t : Summary) (cost : ℕ) (is : offer_transition_at days.case days.nurse days.scale d e.state x ≡ Some (t, cost)) where
+    by_transition : best_by days d e x ≡ within days.limit (raised e.cost (λ rest. offers_to days.offers days.earlier d e ++ rest) (raised cost (λ xs. x ∷ xs) (best_of_offers_at days.case days.nurse days.scale days.offers days.left (suc d) t)))
     unfolding best_by
-    by_transition = ap (λ transition. within days.limit (raised e.cost (λ rest. offers_to days.offers days.earlier d e ++ rest) (best_after x transition (best_of_offers days.case days.nurse days.offers days.left (suc d))))) is
+    by_transition = ap (λ transition. within days.limit (raised e.cost (λ rest. offers_to days.offers days.earlier d e ++ rest) (best_after x transition (best_of_offers_at days.case days.nurse days.scale days.offers days.left (suc d))))) is
 
     -- if each row that begins with it costs more than the limit
-    pub by_pruned : ((rest : ℕ) (row : List Offer) → best_of_offers days.case days.nurse days.offers days.left (suc d) t ≡ Some (rest, row) → days.limit < e.cost + cost + rest) → best_by days d e x ≡ None
-    by_pruned pruned = by_transition ∙ go (best_of_offers days.case days.nurse days.offers days.left (suc d) t) pruned
+    pub by_pruned : ((rest : ℕ) (row : List Offer) → best_of_offers_at days.case days.nurse days.scale days.offers days.left (suc d) t ≡ Some (rest, row) → days.limit < e.cost + cost + rest) → best_by days d e x ≡ None
+    by_pruned pruned = by_transition ∙ go (best_of_offers_at days.case days.nurse days.scale days.offers days.left (suc d) t) pruned
       where
         go : (o : Priced (List Offer)) → ((rest : ℕ) (row : List Offer) → o ≡ Some (rest, row) → days.limit < e.cost + cost + rest) → within days.limit (raised e.cost (λ rest. offers_to days.offers days.earlier d e ++ rest) (raised cost (λ xs. x ∷ xs) o)) ≡ None
         go None pruned = refl
@@ -46,9 +46,9 @@ module _ (days : Days) (d : ℕ) (e : Entry) (x : Offer) where
     pub by_entry : (more : Entry) → days.day ≡ suc d → more.state ≡ t → more.cost ≡ e.cost + cost → entry_numbered days.earlier more.before ≡ e → offer_numbered (days.offers d) more.offer ≡ x → best_of days more ≡ best_by days d e x
     unfolding best_of
     by_entry more day state costs before offer =
-        (λ i. within days.limit (raised (costs i) (λ rest. offers_to days.offers days.earlier (day i) more ++ rest) (best_of_offers days.case days.nurse days.offers days.left (day i) (state i))))
-        ∙ (λ i. within days.limit (raised (e.cost + cost) (λ rest. (offers_to days.offers days.earlier d (before i) ++ offer i ∷ []) ++ rest) (best_of_offers days.case days.nurse days.offers days.left (suc d) t)))
-        ∙ ap (within days.limit) (raised_by_one e.cost cost (offers_to days.offers days.earlier d e) x (best_of_offers days.case days.nurse days.offers days.left (suc d) t))
+        (λ i. within days.limit (raised (costs i) (λ rest. offers_to days.offers days.earlier (day i) more ++ rest) (best_of_offers_at days.case days.nurse days.scale days.offers days.left (day i) (state i))))
+        ∙ (λ i. within days.limit (raised (e.cost + cost) (λ rest. (offers_to days.offers days.earlier d (before i) ++ offer i ∷ []) ++ rest) (best_of_offers_at days.case days.nurse days.scale days.offers days.left (suc d) t)))
+        ∙ ap (within days.limit) (raised_by_one e.cost cost (offers_to days.offers days.earlier d e) x (best_of_offers_at days.case days.nurse days.scale days.offers days.left (suc d) t))
         ∙ sym by_transition
 
 -- ---- what is read
@@ -57,5 +57,5 @@ pub read_day : (offers : List (ArrayVec Offer)) (day : ℕ) (o : ArrayVec Offer)
 read_day offers day o inside is = ap (λ o. o.items) (get_or_default offers day _ o inside ∙ sym is)
 
 -- the transition by an offer, as it is made
-pub read_transition : (c : Meaning) (n day : ℕ) (s state : Summary) (x wanted : Offer) (shift : Option Shift) (transition : Option (Summary × ℕ)) → x ≡ wanted → state ≡ s → shift ≡ shift_of x.choice → transition ≡ transition_of c n day state shift → offer_transition c n day s wanted ≡ dearer x.price transition
-read_transition c n day s state x wanted shift transition same is shift_is transition_is = ap (offer_transition c n day s) (sym same) ∙ ap (dearer x.price) ((λ i. transition_of c n day (sym is i) (sym shift_is i)) ∙ sym transition_is)
+pub read_transition : (c : Meaning) (n scale day : ℕ) (s state : Summary) (x wanted : Offer) (shift : Option Shift) (transition : Option (Summary × ℕ)) → x ≡ wanted → state ≡ s → shift ≡ shift_of x.choice → transition ≡ transition_of c n day state shift → offer_transition_at c n scale day s wanted ≡ dearer x.price (scaled scale transition)
+read_transition c n scale day s state x wanted shift transition same is shift_is transition_is = ap (offer_transition_at c n scale day s) (sym same) ∙ ap (λ o. dearer x.price (scaled scale o)) ((λ i. transition_of c n day (sym is i) (sym shift_is i)) ∙ sym transition_is)

@@ -30,11 +30,11 @@ RunsOut search cells left = (length cells < search_cells search) ⊎ (left < 2 *
 
 -- the rates are small, and the cells hold the completion bounds at these rates
 pub record AreSetAt (search : SearchInput) (rates : Rates) (cells : List ℕ) : Type 0 where
-  pub small : AreSmallRates rates
+  pub small : AreSmallRates search.scale rates
   pub completion_bounds : AreCompletionBoundsOf search rates cells
   pub inside : search_cells search ≤ length cells
 
 -- the best rates are small, and the cells hold the completion bounds at the rates that were set last
 pub record IsTried (search : SearchInput) (cells : List ℕ) (tried : Tried) : Type 0 where
-  pub small : AreSmallRates tried.rates
+  pub small : AreSmallRates search.scale tried.rates
   pub set : AreSetAt search tried.set cells

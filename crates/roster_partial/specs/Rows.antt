@@ -8,7 +8,7 @@ use Rattle.roster_offers.specs.declared.offer.Offer.{Offer}
 use Rattle.roster_offers.specs.ByStates.{best_after}
 use Rattle.roster_offers.specs.Cheapest.{Priced, cheapest, raised}
 use Rattle.roster_offers.specs.Lists.{no_row}
-use Rattle.roster_offers.specs.Offers.{best_of_offers, offer_transition}
+use Rattle.roster_offers.specs.Offers.{best_of_offers_at, offer_transition_at}
 use Rattle.roster_partial.specs.declared.rows.Entry.{Entry}
 
 -- how many partial rows a list holds at most
@@ -96,11 +96,12 @@ IsLinked offers rows (suc d) e =
 
 -- ---- what a list is made for
 
--- a nurse's rows within a limit; a day, with the number of days left from it on, and the entries of the days
--- before
+-- a nurse's rows within a limit, at a scale; a day, with the number of days left from it on, and the entries
+-- of the days before
 pub record Days : Type 0 where
   pub case : Meaning
   pub nurse : ℕ
+  pub scale : ℕ
   pub offers : ℕ → List Offer
   pub limit : ℕ
   pub left : ℕ
@@ -119,9 +120,10 @@ pub record PartialRow : Type 0 where
   pub cost : ℕ
 
 -- the best of the rows that begin with the partial row, with its cost, if m days are left, from day d on
-abbrev pub best_with : Meaning → ℕ → (ℕ → List Offer) → (m d : ℕ) → PartialRow → Priced (List Offer)
-best_with c n offers m d row =
-    raised row.cost (λ rest. row.offers ++ rest) (best_of_offers c n offers m d row.state)
+abbrev pub best_with : Meaning → (n scale : ℕ) → (ℕ → List Offer) → (m d : ℕ) → PartialRow
+    → Priced (List Offer)
+best_with c n scale offers m d row =
+    raised row.cost (λ rest. row.offers ++ rest) (best_of_offers_at c n scale offers m d row.state)
 
 -- the partial row of an entry
 abbrev pub row_of : Days → Entry → PartialRow
@@ -131,7 +133,8 @@ row_of days e =
 -- the best row that begins with an entry, if it is within the limit
 unfoldable pub best_of : Days → Entry → Priced (List Offer)
 best_of days e =
-    within days.limit (best_with days.case days.nurse days.offers days.left days.day (row_of days e))
+    within days.limit
+    (best_with days.case days.nurse days.scale days.offers days.left days.day (row_of days e))
 
 -- the state fits, and what the entry's indices name exists
 pub record IsEntryOf (days : Days) (e : Entry) : Type 0 where
@@ -153,5 +156,5 @@ HaveSameBest days xs ys = cheapest (best_of days) xs ≡ cheapest (best_of days)
 unfoldable pub best_by : Days → ℕ → Entry → Offer → Priced (List Offer)
 best_by days d e x =
     within days.limit (raised e.cost (λ rest. offers_to days.offers days.earlier d e ++ rest)
-    (best_after x (offer_transition days.case days.nurse d e.state x)
-    (best_of_offers days.case days.nurse days.offers days.left (suc d))))
+    (best_after x (offer_transition_at days.case days.nurse days.scale d e.state x)
+    (best_of_offers_at days.case days.nurse days.scale days.offers days.left (suc d))))

@@ -7,7 +7,7 @@ use Rattle.roster_state.specs.declared.state_box.StateBox.{StateBox}
 use Rattle.roster_state.specs.Codes.{sizes_of}
 use Rattle.roster_offers.specs.declared.offer.Offer.{Offer}
 use Rattle.roster_tables.specs.Counts.{states_on}
-use Rattle.roster_tables.specs.Search.{boxes_on, search_day, reachable_extensions, extensions_on}
+use Rattle.roster_tables.specs.Search.{boxes_on, reachable_extensions, extensions_on}
 use Rattle.roster_tables.specs.Tables.{LeadsOn}
 use Rattle.roster_completion.specs.CompletionBounds.{completion_count, completion_extensions}
 use Rattle.roster_partial.specs.Counts.{CountsSearch}
@@ -38,7 +38,7 @@ module _ (c : Meaning) (n : ℕ) (f g : ℕ → List Offer)
       start = counts.are_reachable.start;
       first = counts.are_reachable.first;
       lead =
-          λ day within. subst (All (LeadsOn c (search_day c n day) (boxes_on counts.boxes day)
+          λ day within. subst (All (LeadsOn c n day (boxes_on counts.boxes day)
           (boxes_on counts.boxes (day + 1)))) (same day within) (counts.are_reachable.lead day within);
       long = counts.are_reachable.long;
     };

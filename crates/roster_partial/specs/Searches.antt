@@ -4,8 +4,8 @@ use Rattle.roster_instance.specs.Meaning.{day_count}
 use Rattle.roster_offers.specs.declared.lists.SearchInput.{SearchInput}
 use Rattle.roster_offers.specs.declared.offer.Offer.{Offer}
 use Rattle.roster_offers.specs.Cheapest.{Priced, cheapest}
-use Rattle.roster_offers.specs.Lists.{best_over, offers_on}
-use Rattle.roster_offers.specs.Offers.{best_of_offers}
+use Rattle.roster_offers.specs.Lists.{best_over_at, offers_on}
+use Rattle.roster_offers.specs.Offers.{best_of_offers_at}
 use Rattle.roster_rules.specs.Prefix.{Summary}
 use Rattle.roster_state.specs.Worked.{IsWorkedDay}
 use Rattle.roster_completion.specs.declared.least.Adjustment.{Adjustment}
@@ -28,13 +28,14 @@ offered search = offers_on search.offers.now
 
 -- the best row over all days
 abbrev pub best_in : SearchInput → Priced (List Offer)
-best_in search = best_over search.case.now search.nurse (offered search)
+best_in search = best_over_at search.case.now search.nurse search.scale (offered search)
 
 -- the best row from a state before a day on
 abbrev pub best_onward : LimitedSearch → ℕ → Summary → Priced (List Offer)
 best_onward limited day s =
-    best_of_offers limited.completion_bounds.search.case.now limited.completion_bounds.search.nurse
-    (offered limited.completion_bounds.search) (days_in limited.completion_bounds.search - day) day s
+    best_of_offers_at limited.completion_bounds.search.case.now limited.completion_bounds.search.nurse
+    limited.completion_bounds.search.scale (offered limited.completion_bounds.search)
+    (days_in limited.completion_bounds.search - day) day s
 
 -- ---- the partial rows of a day
 
@@ -54,6 +55,7 @@ abbrev pub days_on : LimitedSearch → ℕ → List Entry → Days
 days_on limited day earlier = record {
   case = limited.completion_bounds.search.case.now;
   nurse = limited.completion_bounds.search.nurse;
+  scale = limited.completion_bounds.search.scale;
   offers = offered limited.completion_bounds.search;
   limit = limited.limit;
   left = days_in limited.completion_bounds.search - day;

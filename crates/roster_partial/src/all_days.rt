@@ -169,7 +169,7 @@ fn cost_at_end(limited: &LimitedSearch<'_>, rows: &[u32], index: usize) -> Optio
     }
     let search = &limited.completion_bounds.search;
     let state = row_state(rows, index);
-    let cost = days + end_cost(search.case, search.nurse, state);
+    let cost = days + search.scale * end_cost(search.case, search.nurse, state);
     if cost > limited.limit {
         return None;
     }

@@ -75,28 +75,36 @@ impl Guesses {
         }
     }
 
-    /// The guess for a search: by the nurse's last one, else by the last one for a nurse with the same
-    /// contract.
+    /// The guess for a search, at its scale: by the nurse's last one, else by the last one for a nurse with
+    /// the same contract.
     pub(crate) fn of(&self, search: &SearchInput<'_>) -> Option<Guess> {
-        match self.nurses.get(search.nurse) {
+        let guess = match self.nurses.get(search.nurse) {
             Some(Some(guess)) => Some(*guess),
             _ => match self.contracts.get(search.case.contract(search.nurse)) {
                 Some(guess) => *guess,
                 None => None,
             },
+        };
+        match guess {
+            Some(guess) => Some(guess.at(search.scale)),
+            None => None,
         }
     }
 
     /// Records a search that had these completion bounds and found a row at this cost. If its spread is
-    /// larger than that of the nurse's last search, the recorded one grows by only 1, so it takes several
-    /// searches until a larger spread counts as good enough.
+    /// larger than that of the nurse's last search, the recorded one grows by only a point, so it takes
+    /// several searches until a larger spread counts as good enough.
     pub(crate) fn learn(&mut self, search: &SearchInput<'_>, best: &BestBounds, cost: u32) {
         let spread = best.high.saturating_sub(best.low);
         let spread = match self.nurses.get(search.nurse) {
-            Some(Some(before)) => spread.min(before.spread.saturating_add(1)),
+            Some(Some(before)) => {
+                let before = before.at(search.scale);
+                spread.min(before.spread.saturating_add(search.scale))
+            }
             _ => spread,
         };
         let guess = Guess {
+            scale: search.scale,
             rates: best.rates,
             spread,
             gap: cost.saturating_sub(best.low),

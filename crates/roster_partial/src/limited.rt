@@ -20,7 +20,7 @@ pub struct Bounded<'a> {
 #[derive(Clone, Copy)]
 pub struct LimitedSearch<'a> {
     pub completion_bounds: CompletionBounds<'a>,
-    /// The limit in penalty points, less than what stands for no row.
+    /// The limit, in the parts of a point of the search's scale, less than what stands for no row.
     pub limit: u32,
     /// How many partial rows the list may hold at once.
     pub row_limit: usize,

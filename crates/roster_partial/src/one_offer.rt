@@ -172,6 +172,7 @@ pub fn extend_row(
     let SearchInput {
         case,
         nurse,
+        scale,
         offers,
     } = limited.completion_bounds.search;
     case.keeps_limits();
@@ -187,7 +188,7 @@ pub fn extend_row(
     let Some(transition) = days.extend(at.day, extension.state, worked, shift, meter) else {
         return true;
     };
-    let cost = extension.cost + offer.price + transition.1;
+    let cost = extension.cost + offer.price + scale * transition.1;
     let adjustment = adjustment_after(limited, at.day + 1, &extension.work, shift, &transition.0);
     if is_pruned(limited, at.day + 1, &transition.0, cost, &adjustment) {
         return true;

@@ -3,7 +3,7 @@
 ghost use Rattle.std.specs.Prelude.{◌≡◌, ◌+◌, ◌-◌, ◌^◌, ◌≤◌, ◌<◌, IfSome, IsNone, true};
 ghost use Rattle.roster_bundle.specs.Limits.{greatest_u64};
 ghost use Rattle.roster_instance.specs.Meaning.{day_count};
-ghost use Rattle.roster_offers.specs.Lists.{offers_on};
+ghost use Rattle.roster_offers.specs.Lists.{most_scale, offers_on};
 ghost use Rattle.roster_completion.specs.CompletionBounds.{AreSmallRates, search_extensions};
 ghost use Rattle.roster_partial.specs.Counts.{CountsSets, most_sets};
 ghost use Rattle.roster_partial.specs.Rates.{AreSetAt, FitsNurse, IsTried, RunsOut, most_offers, row_extensions, trial_extensions};
@@ -43,9 +43,11 @@ const NEXT_CHANGE: u32 = 4;
 /// setting the completion bounds anew takes longer than it spares.
 const CLOSE: u32 = 5;
 
-/// What an earlier search suggests for the next one. Only the time depends on it.
+/// What an earlier search suggests for the next one, in the parts of a point of its scale. Only the time
+/// depends on it.
 #[derive(Clone, Copy)]
 pub struct Guess {
+    pub scale: u32,
     pub rates: Rates,
     /// How far apart the lower and the upper bound of its best row's cost were.
     pub spread: u32,
@@ -55,8 +57,33 @@ pub struct Guess {
     pub is_own: bool,
 }
 
-/// The completion bounds that were set: their rates, and two bounds of the best row's cost in penalty points,
-/// a lower one that holds for each row and an upper one, the cost of some row.
+impl Guess {
+    /// The same for a search at another scale.
+    pub fn at(self, scale: u32) -> Guess {
+        if self.scale == scale {
+            return self;
+        }
+        let rates = Rates {
+            day: self.parts_at(self.rates.day, scale),
+            weekend: self.parts_at(self.rates.weekend, scale),
+        };
+        Guess {
+            scale,
+            rates,
+            spread: self.parts_at(self.spread, scale),
+            gap: self.parts_at(self.gap, scale),
+            is_own: self.is_own,
+        }
+    }
+
+    /// A number of its parts of a point, in those of another scale.
+    fn parts_at(&self, parts: u32, scale: u32) -> u32 {
+        parts.saturating_mul(scale) / self.scale.max(1)
+    }
+}
+
+/// The completion bounds that were set: their rates, and two bounds of the best row's cost, a lower one that
+/// holds for each row and an upper one, the cost of some row.
 #[derive(Clone, Copy)]
 pub struct BestBounds {
     pub rates: Rates,
@@ -115,8 +142,9 @@ fn extensions_of_trial(bounded: &Bounded<'_>) -> u64
 
 // ---- rates, one pair after another
 
-/// How rates are tried: the first pair, by how many points the next ones differ, how many more are tried at
-/// most, and how close a row must be to the completion bounds to be good enough.
+/// How rates are tried: the first pair, by how much the next ones differ, how many more are tried at most,
+/// and how close a row must be to the completion bounds to be good enough. All are in the parts of a point
+/// of the search's scale.
 #[derive(Clone, Copy)]
 struct TrialPlan {
     rates: Rates,
@@ -129,36 +157,37 @@ struct TrialPlan {
 /// cheapest transitions.
 fn plan_by(bounded: &Bounded<'_>, guess: Option<Guess>, meter: &mut Meter) -> TrialPlan
     requires room { meter.old + row_extensions bounded.now.search ≤ greatest_u64 }
-    ensures small { AreSmallRates result.rates }
+    ensures small { AreSmallRates bounded.now.search.scale result.rates }
     ensures trials { result.trials ≤ 11 }
     ensures counted { (meter.old ≤ meter.new)
         × (meter.new ≤ meter.old + row_extensions bounded.now.search) }
 {
+    let scale = bounded.search.scale;
     let none = Rates { day: 0, weekend: 0 };
     let first = first_trials(bounded.search.case);
     match guess {
         Some(guess) if guess.is_own => TrialPlan {
-            rates: within_range(guess.rates),
-            by: NEXT_CHANGE,
+            rates: within_range(guess.rates, scale),
+            by: scale * NEXT_CHANGE,
             trials: MOST_TRIALS_FROM_SAME,
-            close: guess.spread.saturating_add(CLOSE),
+            close: guess.spread.saturating_add(scale * CLOSE),
         },
         Some(guess) => TrialPlan {
-            rates: within_range(guess.rates),
-            by: NEXT_CHANGE,
+            rates: within_range(guess.rates, scale),
+            by: scale * NEXT_CHANGE,
             trials: min(MOST_TRIALS_FROM_OTHER, first),
-            close: CLOSE,
+            close: scale * CLOSE,
         },
         None => TrialPlan {
             rates: rates_after(
                 bounded,
                 none,
-                ASSIGNMENT + WEEKEND,
+                scale * (ASSIGNMENT + WEEKEND),
                 follow(&bounded.search, None, meter),
             ),
-            by: FIRST_CHANGE,
+            by: scale * FIRST_CHANGE,
             trials: min(MOST_TRIALS, first),
-            close: CLOSE,
+            close: scale * CLOSE,
         },
     }
 }
@@ -170,13 +199,14 @@ fn first_trials(case: &Case) -> usize {
     weeks.saturating_sub(WEEKS_WITHOUT_TRIAL).max(FEWEST_TRIALS)
 }
 
-/// The rates, each at most what one assignment or worked weekend too many costs.
-fn within_range(rates: Rates) -> Rates
-    ensures { AreSmallRates result }
+/// The rates, each at most what one assignment or worked weekend too many costs at a scale.
+fn within_range(rates: Rates, scale: u32) -> Rates
+    requires { scale ≤ most_scale }
+    ensures { AreSmallRates scale result }
 {
     Rates {
-        day: min(rates.day, ASSIGNMENT),
-        weekend: min(rates.weekend, WEEKEND),
+        day: min(rates.day, scale * ASSIGNMENT),
+        weekend: min(rates.weekend, scale * WEEKEND),
     }
 }
 
@@ -205,12 +235,14 @@ fn trial(bounded: &Bounded<'_>, rates: Rates, completion_bounds: &[u32], meter: 
     let SearchInput {
         case,
         nurse,
+        scale,
         offers,
     } = bounded.search;
     // (The search is copied, since the completion bounds are borrowed for a shorter time.)
     let here = SearchInput {
         case,
         nurse,
+        scale,
         offers,
     };
     let completion_bounds = CompletionBounds::of(&here, rates, completion_bounds);
@@ -275,7 +307,7 @@ fn try_more(
     completion_bounds: &mut [u32],
     meter: &mut Meter,
 ) -> Tried
-    requires small { AreSmallRates rates }
+    requires small { AreSmallRates bounded.now.search.scale rates }
     requires tried { IsTried bounded.now.search completion_bounds.old tried }
     requires room { meter.old + trial_extensions bounded.now.search ≤ greatest_u64 }
     ensures tried { IsTried bounded.now.search completion_bounds.new result }
@@ -299,8 +331,8 @@ fn try_more(
 /// The rates to try next: each is raised if the followed row has too many of what it charges for, and lowered
 /// if the row has fewer than it may.
 fn rates_after(bounded: &Bounded<'_>, rates: Rates, by: u32, followed: Option<Followed>) -> Rates
-    requires small { AreSmallRates rates }
-    ensures small { AreSmallRates result }
+    requires small { AreSmallRates bounded.now.search.scale rates }
+    ensures small { AreSmallRates bounded.now.search.scale result }
 {
     let Some(row) = followed else {
         return rates;
@@ -308,9 +340,11 @@ fn rates_after(bounded: &Bounded<'_>, rates: Rates, by: u32, followed: Option<Fo
     let rules = bounded.search.case.contract_rules(bounded.search.nurse);
     let most_days = rules.total.greatest as u32;
     let most_weekends = rules.weekends as u32;
+    let scale = bounded.search.scale;
+    let (day, weekend) = (scale * ASSIGNMENT, scale * WEEKEND);
     Rates {
-        day: rate_after(rates.day, by, ASSIGNMENT, row.assignments, most_days),
-        weekend: rate_after(rates.weekend, by, WEEKEND, row.weekends, most_weekends),
+        day: rate_after(rates.day, by, day, row.assignments, most_days),
+        weekend: rate_after(rates.weekend, by, weekend, row.weekends, most_weekends),
     }
 }
 
@@ -365,7 +399,12 @@ fn follow(
     requires room { meter.old + row_extensions search.now ≤ greatest_u64 }
     ensures counted { (meter.old ≤ meter.new) × (meter.new ≤ meter.old + row_extensions search.now) }
 {
-    let SearchInput { case, nurse, .. } = *search;
+    let SearchInput {
+        case,
+        nurse,
+        scale,
+        ..
+    } = *search;
     let (mut state, _) = start(case, nurse);
     let mut row = Followed {
         cost: 0,
@@ -377,7 +416,8 @@ fn follow(
         row = with_transition(row, day, &state, &transition);
         state = transition.state;
     }
-    let cost = row.cost.saturating_add(end_cost(case, nurse, state));
+    let end = scale.saturating_mul(end_cost(case, nurse, state));
+    let cost = row.cost.saturating_add(end);
     Some(Followed { cost, ..row })
 }
 
@@ -416,6 +456,7 @@ fn best_transition(
     let SearchInput {
         case,
         nurse,
+        scale,
         offers,
     } = *search;
     case.keeps_limits();
@@ -430,7 +471,7 @@ fn best_transition(
         let Some((next, more)) = days.extend(day, state, &worked, shift, meter) else {
             continue;
         };
-        let cost = offer.price.saturating_add(more);
+        let cost = offer.price.saturating_add(scale.saturating_mul(more));
         let completion_bound = match completion_bounds {
             Some(completion_bounds) => at_least(completion_bounds, day + 1, &next),
             None => 0,

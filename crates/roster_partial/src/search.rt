@@ -64,10 +64,11 @@ impl Hints {
 
 /// Searches the best row over a table of offers, wherever these come from. `row` then begins with its
 /// choices, one for each day, and the result is its cost: its prices, and what the nurse's own rules cost
-/// along it, without what the start owes. The search takes no memory. The meter counts each completion bound,
-/// each partial row and each state with each offer by which it is extended: at least one extension for each
-/// day, and at most one for each state, day and choice of the nurse. The extensions that the tables may need
-/// are set aside before anything else is counted.
+/// along it, without what the start owes, in the parts of a point of the search's scale. The search takes
+/// no memory. The meter counts each completion bound, each partial row and each state with each offer by
+/// which it is extended: at least one extension for each day, and at most one for each state, day and
+/// choice of the nurse. The extensions that the tables may need are set aside before anything else is
+/// counted.
 pub fn search_row(
     search: &SearchInput<'_>,
     hints: &mut Hints,
@@ -161,10 +162,11 @@ fn search_partial(
     ensures most { meter.new ≤ bounded.now.last_count }
     ensures length { length row.new ≡ length row.old }
 {
+    let scale = bounded.search.scale;
     let guess = hints.guesses.of(&bounded.search);
     let best = set_best_bounds(bounded, guess, completion_bounds, meter)?;
-    let mut limit = best.low.saturating_add(first_gap(guess));
-    let mut more = 10;
+    let mut limit = best.low.saturating_add(first_gap(guess, scale));
+    let mut more = 10 * scale;
     'limits: for _tried in 0..MOST_LIMITS {
         let attempt = Attempt {
             completion_bounds,
@@ -180,7 +182,7 @@ fn search_partial(
             Within::Dearer => {}
         }
         limit = limit.saturating_add(more);
-        more = more.saturating_add(more / 2 + 5);
+        more = more.saturating_add(more / 2 + 5 * scale);
     }
     None
 }
@@ -189,15 +191,17 @@ fn search_partial(
 /// less than the smallest difference between the true penalties of two rows.
 const FIRST_MORE: u32 = 4;
 
-/// By how many points the first limit is above the lower bound of the best row's cost.
-fn first_gap(guess: Option<Guess>) -> u32 {
+/// By how much the first limit is above the lower bound of the best row's cost, in parts of a point.
+fn first_gap(guess: Option<Guess>, scale: u32) -> u32 {
+    let more = FIRST_MORE.saturating_mul(scale);
     match guess {
-        Some(guess) if guess.is_own => guess.gap.saturating_add(FIRST_MORE),
-        _ => FIRST_MORE,
+        Some(guess) if guess.is_own => guess.gap.saturating_add(more),
+        _ => more,
     }
 }
 
-/// A limit that is tried, in penalty points, with the completion bounds and their rates.
+/// A limit that is tried, in the parts of a point of the search's scale, with the completion bounds and their
+/// rates.
 #[derive(Clone, Copy)]
 struct Attempt<'a> {
     completion_bounds: &'a [u32],
@@ -235,12 +239,14 @@ fn search_within(
     let SearchInput {
         case,
         nurse,
+        scale,
         offers,
     } = bounded.search;
     // (The search is copied, since the completion bounds are borrowed for a shorter time.)
     let here = SearchInput {
         case,
         nurse,
+        scale,
         offers,
     };
     let limited = LimitedSearch {

@@ -51,7 +51,7 @@ pub record TakesAllBut (kept left nurses passes : ℕ) : Type 0 where
 abbrev pub gain_since : Meaning → ℕ → Rows → SlotPrices → LastSearches → (n : ℕ) → Row → ℕ
 gain_since c from given w last n row =
     sum_below (day_count c) (λ d. most_gain (prices_on c last n d)
-    (offer_at (price_by c w n) d (choice_on row d)) (shift_offers_by_dual_price c from given w n d))
+    (offer_at (price_by c 1 w n) d (choice_on row d)) (shift_offers_by_dual_price c from given 1 w n d))
 
 -- that is at most five points, and there was such a search
 abbrev pub is_left_out : Meaning → ℕ → Rows → SlotPrices → LastSearches → (n : ℕ) → Row → Bool

@@ -35,8 +35,8 @@ shift_index (Work s k) = 1 + s.0
 -- the price by dual prices or the true one, plus the points by which the shift is dearer
 abbrev pub price_from : Meaning → ℕ → Kick → ℕ → Choice → ℕ → ℕ
 price_from c n kick d choice true_price =
-    min ((if kick.by_dual_price then price_by c (slot_prices kick.dual_prices.now) n d choice else true_price)
-    + slice_index_or kick.dearer.now (9 * d + shift_index choice) 0) most_price
+    min ((if kick.by_dual_price then price_by c 1 (slot_prices 1 kick.dual_prices.now) n d choice
+    else true_price) + slice_index_or kick.dearer.now (9 * d + shift_index choice) 0) most_price
 
 abbrev pub kick_price : Meaning → Rows → ℕ → Kick → ℕ → Choice → ℕ
 kick_price c r n kick d choice = price_from c n kick d choice (price c r n d choice)

@@ -233,12 +233,14 @@ fn fade_nurse<T: SearchesRows>(
         ..
     } = space;
     let (case, nurse) = (base.case, turn.nurse);
+    case.keeps_limits();
     take_row(case, faded.row(nurse), fading, bounds, fade_prices);
     let terms = Terms {
         case,
         dual_prices: fade_prices,
         given: base.given,
         from: base.from,
+        scale: 1,
     };
     let workspace = &mut bounds.rows.workspace;
     let searched = visit(&terms, turn, faded.row(nurse), workspace, last, meter);

@@ -73,12 +73,13 @@ fn price_by_dual_price(kick: &Kick<'_>, case: &Case, nurse: usize, day: u16, cho
     requires nurse { nurse < nurse_count case.now }
     requires day { day < day_count case.now }
     requires choice { is_choice_of case.now choice ≡ true }
-    ensures { result ≡ price_by case.now (slot_prices kick.now.dual_prices.now) nurse day choice }
+    ensures { result ≡ price_by case.now 1 (slot_prices 1 kick.now.dual_prices.now) nurse day
+        choice }
 {
     case.keeps_limits();
     let choice_dual_price = match choice {
         Choice::Off => 0,
-        Choice::Work(shift, skill) => kick.dual_prices.at(day, shift, skill),
+        Choice::Work(shift, skill) => kick.dual_prices.at(1, day, shift, skill),
     };
     MOST_DUAL_PRICE - choice_dual_price + request_cost(case, nurse, day, choice.shift())
 }

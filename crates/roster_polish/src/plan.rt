@@ -22,11 +22,11 @@ use crate::searches::Searches;
 use crate::space::PolishSpace;
 use roster_costs::{first_absent_before, first_hard, first_succession_before, missing};
 use roster_instance::{Case, Roster};
-use roster_offers::SearchesRows;
+use roster_offers::{SearchesRows, greatest_scale};
 use roster_prices::{
-    Base, Fading, STEPS_PER_ROUND, WHOLE, has_uncovered_slot, improve_dual_prices, raise_uncovered,
+    Base, Fading, WHOLE, has_uncovered_slot, improve_dual_prices, raise_uncovered,
 };
-use roster_slots::{MOST_DUAL_PRICE, StepSchedule};
+use roster_slots::MOST_DUAL_PRICE;
 use roster_state::Meter;
 
 /// How many passes the first fade makes. Each later one makes twice as many as the one before.
@@ -100,6 +100,7 @@ pub fn find_roster<T: SearchesRows>(
         case,
         given: roster,
         from: course.from,
+        scale: greatest_scale(case),
     };
     let mut kicking = begin_plan(&base, course, space, meter);
     fade_until_kept(&base, &mut kicking, space, meter);
@@ -134,11 +135,7 @@ fn begin_plan<T: SearchesRows>(
     base.case.keeps_limits();
     let nurses = base.case.nurses() as u32;
     let rounds = rounds_within(course.searches, ROUNDS_DIVISOR, nurses).min(MOST_ROUNDS);
-    let schedule = StepSchedule {
-        rounds: rounds as u16,
-        steps: STEPS_PER_ROUND,
-    };
-    improve_dual_prices(base, schedule, &mut space.bounds, meter);
+    improve_dual_prices(base, rounds as u16, None, &mut space.bounds, meter);
     space.kept.put_rows(base.given);
     Kicking {
         searches: Searches {

@@ -18,9 +18,8 @@ use crate::searches::Searches;
 use crate::space::PolishSpace;
 use roster_case::Held;
 use roster_offers::SearchesRows;
-use roster_prices::{Base, STEPS_PER_ROUND, improve_dual_prices};
+use roster_prices::{Base, improve_dual_prices};
 use roster_reports::{LogFault, log_start, log_word};
-use roster_slots::StepSchedule;
 use roster_state::Meter;
 use roster_text::Watch;
 use std::io::Write;
@@ -167,15 +166,8 @@ fn begin<T: SearchesRows>(
     let parts = if course.kicks_alone { 2 } else { 3 };
     let rounds = rounds_within(course.searches, parts, nurses);
     let base = Base::of(held, course.from);
-    let schedule = StepSchedule {
-        rounds: rounds as u16,
-        steps: if course.kicks_alone {
-            1
-        } else {
-            STEPS_PER_ROUND
-        },
-    };
-    improve_dual_prices(&base, schedule, &mut space.bounds, meter);
+    let penalty = Some(held.total());
+    improve_dual_prices(&base, rounds as u16, penalty, &mut space.bounds, meter);
     space.keep(held);
     let left = course.searches - rounds * nurses;
     Kicking {

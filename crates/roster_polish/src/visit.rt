@@ -29,8 +29,8 @@ pub(crate) struct Turn {
     pub(crate) surely: bool,
 }
 
-/// Searches a nurse's best row by what slots pay, or leaves her out. `row` is her present one. Returns
-/// whether she was searched.
+/// Searches a nurse's best row by what slots pay, in whole points, or leaves her out. `row` is her present
+/// one. Returns whether she was searched.
 pub(crate) fn visit<T: SearchesRows>(
     terms: &Terms<'_>,
     turn: Turn,
@@ -40,14 +40,15 @@ pub(crate) fn visit<T: SearchesRows>(
     meter: &mut Meter,
 ) -> bool
     requires nurse { turn.nurse < nurse_count terms.now.case.now }
+    requires scale { terms.now.scale ≡ 1 }
     requires row { is_row_of terms.now.case.now row.now ≡ true }
     requires fits { fits_space terms.now.case.now workspace.old ≡ true }
     requires recalls { RecallsSearches terms.now.case.now last.old }
     requires room { meter.old + extension_count terms.now.case.now turn.nurse ≤ greatest_u64 }
     ensures searched { result ≡ (turn.surely || not (is_left_out terms.now.case.now terms.now.from
-        terms.now.given.now (slot_prices terms.now.dual_prices.now) last.old turn.nurse row.now)) }
+        terms.now.given.now (slot_prices 1 terms.now.dual_prices.now) last.old turn.nurse row.now)) }
     ensures row { result ≡ true → row_by_dual_prices terms.now.case.now terms.now.from
-        terms.now.given.now (slot_prices terms.now.dual_prices.now) turn.nurse ≡ Some
+        terms.now.given.now 1 (slot_prices 1 terms.now.dual_prices.now) turn.nurse ≡ Some
         workspace.new.row }
     ensures each_day { result ≡ true → meter.old + day_count terms.now.case.now ≤ meter.new }
     ensures spared { result ≡ false → meter.new ≡ meter.old }
@@ -72,13 +73,13 @@ fn search_offered<T: SearchesRows>(
     meter: &mut Meter,
 )
     requires nurse { nurse < nurse_count terms.now.case.now }
-    requires offers { AreDualPricedOffers terms.now.case.now terms.now.from terms.now.given.now
-        (slot_prices terms.now.dual_prices.now) nurse workspace.old.offers }
+    requires offers { AreDualPricedOffers terms.now.case.now terms.now.from terms.now.given.now 1
+        (slot_prices 1 terms.now.dual_prices.now) nurse workspace.old.offers }
     requires fits { fits_space terms.now.case.now workspace.old ≡ true }
     requires recalls { RecallsSearches terms.now.case.now last.old }
     requires room { meter.old + extension_count terms.now.case.now nurse ≤ greatest_u64 }
-    ensures row { row_by_dual_prices terms.now.case.now terms.now.from terms.now.given.now
-        (slot_prices terms.now.dual_prices.now) nurse ≡ Some workspace.new.row }
+    ensures row { row_by_dual_prices terms.now.case.now terms.now.from terms.now.given.now 1
+        (slot_prices 1 terms.now.dual_prices.now) nurse ≡ Some workspace.new.row }
     ensures each_day { meter.old + day_count terms.now.case.now ≤ meter.new }
     ensures counted { meter.new ≤ meter.old + extension_count terms.now.case.now nurse }
     ensures fits { fits_space terms.now.case.now workspace.new ≡ true }
@@ -100,11 +101,12 @@ fn is_left_out(
 ) -> bool
     requires nurse { nurse < nurse_count terms.now.case.now }
     requires row { is_row_of terms.now.case.now row.now ≡ true }
-    requires offers { AreDualPricedOffers terms.now.case.now terms.now.from terms.now.given.now
-        (slot_prices terms.now.dual_prices.now) nurse offers.now }
+    requires offers { AreDualPricedOffers terms.now.case.now terms.now.from terms.now.given.now 1
+        (slot_prices 1 terms.now.dual_prices.now) nurse offers.now }
+    requires scale { terms.now.scale ≡ 1 }
     requires recalls { RecallsSearches terms.now.case.now last.now }
     ensures { result ≡ is_left_out terms.now.case.now terms.now.from terms.now.given.now
-        (slot_prices terms.now.dual_prices.now) last.now nurse row.now }
+        (slot_prices 1 terms.now.dual_prices.now) last.now nurse row.now }
 {
     let case = terms.case;
     case.keeps_limits();

@@ -31,8 +31,11 @@ pub record ArePricedOffers (c : Meaning) (from : ℕ) (given : Rows) (price : �
   pub each : (day : ℕ) → day < day_count c → offers_on offers day ≡ shift_offers c from given price n day
 
 -- the same by dual prices
-abbrev pub shift_offers_by_dual_price : Meaning → ℕ → Rows → SlotPrices → (n d : ℕ) → List Offer
-shift_offers_by_dual_price c from given w n d = shift_offers c from given (price_by c w n) n d
+abbrev pub shift_offers_by_dual_price : Meaning → ℕ → Rows → (scale : ℕ) → SlotPrices → (n d : ℕ)
+    → List Offer
+shift_offers_by_dual_price c from given scale w n d = shift_offers c from given (price_by c scale w n) n d
 
-abbrev pub AreDualPricedOffers : Meaning → ℕ → Rows → SlotPrices → ℕ → List (ArrayVec Offer) → Type 0
-AreDualPricedOffers c from given w n offers = ArePricedOffers c from given (price_by c w n) n offers
+abbrev pub AreDualPricedOffers : Meaning → ℕ → Rows → (scale : ℕ) → SlotPrices → ℕ
+    → List (ArrayVec Offer) → Type 0
+AreDualPricedOffers c from given scale w n offers =
+    ArePricedOffers c from given (price_by c scale w n) n offers

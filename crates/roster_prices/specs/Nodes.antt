@@ -1,5 +1,5 @@
 -- Nodes of the branching tree, and lower bounds for the rosters of a node (our own).
-use Rattle.std.specs.Prelude.{◌≡◌, ℕ, ◌+◌, ◌==◌, ◌≤◌, ◌&&◌, Bool, true, not, if◌then◌else◌, List, [], ◌∷◌, ◌++◌}
+use Rattle.std.specs.Prelude.{◌≡◌, ℕ, ◌+◌, ◌-◌, ◌*◌, ◌==◌, ◌≤◌, ◌&&◌, Bool, true, not, if◌then◌else◌, List, [], ◌∷◌, ◌++◌}
 use Rattle.std.specs.List.{list_all, list_any}
 use Rattle.roster_instance.specs.declared.choice.Choice.{Choice}
 use Rattle.roster_instance.specs.Choices.{same_choice}
@@ -9,8 +9,12 @@ use Rattle.roster_rules.specs.HardRules.{keeps_hard}
 use Rattle.roster_rules.specs.Penalties.{penalty}
 use Rattle.roster_laws.specs.FrozenDays.{FrozenDaysStay}
 use Rattle.roster_prices.specs.declared.decisions.Decision.{Decision}
-use Rattle.roster_slots.specs.Slots.{SlotPrices}
-use Rattle.roster_prices.specs.LowerBounds.{cheapest_cost, price_by, rounded_up, lagrangian_with}
+use Rattle.roster_prices.specs.declared.offers.Terms.{Terms}
+use Rattle.roster_rules.specs.Weights.{most_request}
+use Rattle.roster_offers.specs.Lists.{most_price_at}
+use Rattle.roster_slots.specs.Slots.{SlotPrices, most_dual_price}
+use Rattle.roster_slots.specs.Tables.{slot_prices}
+use Rattle.roster_prices.specs.LowerBounds.{cheapest_cost, in_points, lagrangian_with, price_by, rounded_up}
 
 -- a choice on the decision's day is as decided: the one that it names, or another one
 abbrev pub is_as_decided : Decision → Choice → Bool
@@ -44,21 +48,32 @@ abbrev pub is_against : List Decision → (n d : ℕ) → Choice → Bool
 is_against node n d choice =
     list_any (λ x. (x.nurse == n) && (x.day == d) && not (is_as_decided x choice)) node
 
--- such a choice costs this many points more
-abbrev pub against_price : ℕ
-against_price = 1000000
+-- such a choice costs this many parts more: all that a price can have beside the dual price and the requests.
+-- That is 1,718,080 points at scale 1, 39,655 at scale 8 and 380 at scale 128.
+abbrev pub against_price : (scale : ℕ) → ℕ
+against_price scale = most_price_at scale - scale * (most_dual_price + most_request)
 
-abbrev pub price_in : Meaning → SlotPrices → List Decision → (n d : ℕ) → Choice → ℕ
-price_in c w node n d choice =
-    if is_against node n d choice then against_price + price_by c w n d choice else price_by c w n d choice
+abbrev pub price_in : Meaning → (scale : ℕ) → SlotPrices → List Decision → (n d : ℕ) → Choice → ℕ
+price_in c scale w node n d choice =
+    if is_against node n d choice then against_price scale + price_by c scale w n d choice
+    else price_by c scale w n d choice
 
-abbrev pub row_bound_in : Meaning → ℕ → Rows → SlotPrices → List Decision → (n : ℕ) → ℕ
-row_bound_in c from given w node n = cheapest_cost c from given (price_in c w node n) n
+abbrev pub row_bound_in : Meaning → ℕ → Rows → (scale : ℕ) → SlotPrices → List Decision → (n : ℕ) → ℕ
+row_bound_in c from given scale w node n = cheapest_cost c from given scale (price_in c scale w node n) n
 
--- no row costs more: it is the sum of two numbers of 32 bits
+-- the dual prices of terms, and the price of a choice by them in a node
+abbrev pub dual_prices_of : Terms → SlotPrices
+dual_prices_of terms = slot_prices terms.scale terms.dual_prices.now
+
+abbrev pub node_price : Terms → List Decision → (n d : ℕ) → Choice → ℕ
+node_price terms node = price_in terms.case.now terms.scale (dual_prices_of terms) node
+
+-- no row costs more: it is the sum of two numbers of 32 bits, of which one is in points and is multiplied by
+-- the scale, at most 128
 abbrev pub most_row_bound : ℕ
-most_row_bound = 8589934590
+most_row_bound = 554050781055
 
 -- what the slots and the nurses cost at least in the node
-unfoldable pub bound_in : Meaning → ℕ → Rows → SlotPrices → List Decision → ℕ
-bound_in c from given w node = rounded_up c (lagrangian_with c w (row_bound_in c from given w node))
+unfoldable pub bound_in : Meaning → ℕ → Rows → (scale : ℕ) → SlotPrices → List Decision → ℕ
+bound_in c from given scale w node =
+    rounded_up c (in_points scale (lagrangian_with c scale w (row_bound_in c from given scale w node)))

@@ -12,13 +12,13 @@ pub record FitsRows {T : Type 0} (c : Meaning) (w : RowSpace T) : Type 0 where
   pub search : fits_space c w.workspace ≡ true
   pub cover : length w.cover.items ≡ 64 * day_count c
 
--- for two dual prices and two covers for each of these slots, and for a column pool
+-- for two dual prices, a subgradient and a direction for each of these slots, and for a column pool
 pub record FitsBound {T : Type 0} (c : Meaning) (w : BoundWorkspace T) : Type 0 where
   pub rows : FitsRows c w.rows
   pub dual_prices : w.dual_prices.days ≡ day_count c
-  pub tried : w.tried.days ≡ day_count c
-  pub wanted : length w.covers.wanted.items ≡ 64 * day_count c
-  pub had : length w.covers.had.items ≡ 64 * day_count c
+  pub aside : w.aside.days ≡ day_count c
+  pub subgradient : length w.directions.subgradient.items ≡ 64 * day_count c
+  pub direction : length w.directions.direction.items ≡ 64 * day_count c
   pub pool : FitsPool c w.pool
 
 -- a round is a search for each nurse: it counts at least one extension for each day, and at most as many as

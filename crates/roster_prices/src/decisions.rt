@@ -1,7 +1,8 @@
 //! Branching decisions, which make a node of the tree.
 
-ghost use Rattle.std.specs.Prelude.{◌≡◌};
-ghost use Rattle.roster_prices.specs.Nodes.{is_against, is_as_decided, other_way};
+ghost use Rattle.std.specs.Prelude.{◌≡◌, ◌+◌, ◌≤◌};
+ghost use Rattle.roster_offers.specs.Lists.{most_price_at, most_scale};
+ghost use Rattle.roster_prices.specs.Nodes.{against_price, is_against, is_as_decided, other_way};
 
 use roster_instance::Choice;
 
@@ -14,9 +15,24 @@ pub struct Decision {
     pub does: bool,
 }
 
-/// By how many points a choice that goes against a decision is dearer. It is offered nonetheless, so that a
-/// nurse who can't do as decided has a row.
-pub(crate) const AGAINST_PRICE: u32 = 1_000_000;
+/// The greatest price of an offer in whole points, and in points where prices are finer.
+const MOST_PRICE: u32 = 1_918_200;
+
+const MOST_POINTS: u32 = 200_500;
+
+/// The greatest price by dual prices: the greatest dual price and a nurse's requests.
+const MOST_BY_DUAL_PRICES: u32 = 200_120;
+
+/// By how many parts of a point a choice that goes against a decision is dearer: as many as a price by dual
+/// prices leaves. That is 1,718,080 points at scale 1, 39,655 at scale 8 and 380 at scale 128. However few
+/// they are, a row that keeps the decisions doesn't pay them, so the bound holds in the node. Such a choice
+/// is offered so that a nurse who can't do as decided has a row.
+pub(crate) fn against_price(scale: u32) -> u32
+    requires { scale ≤ most_scale }
+    ensures { result ≡ against_price scale }
+{
+    MOST_PRICE.max(scale * MOST_POINTS) - scale * MOST_BY_DUAL_PRICES
+}
 
 impl Decision {
     /// The decision the other way round.

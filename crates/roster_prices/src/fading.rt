@@ -8,12 +8,12 @@ ghost use Rattle.roster_slots.specs.Tables.{most_fine, slot_prices};
 ghost use Rattle.roster_prices.specs.Workspaces.{FitsBound};
 ghost use Rattle.roster_prices.specs.LowerBounds.{price_by};
 
-use crate::offers::{Terms, choice_dual_price};
+use crate::offers::{Terms, price_with};
 use crate::workspace::BoundWorkspace;
 use roster_instance::{Case, Choice, Need, Roster, Shift, Skill};
 use roster_offers::{SearchesRows, request_cost};
 use roster_rules::weights::STAFFING;
-use roster_slots::{DualPrices, FINE_PER_POINT, MOST_DUAL_PRICE, MOST_FINE, count_row, need_at};
+use roster_slots::{DualPrices, FINE_PER_POINT, MOST_FINE, count_row, need_at};
 
 /// How far a fade has come: the share of the dual price in what a slot pays, in 1024ths. The rest is what one
 /// more nurse gains there: what a missing nurse costs if the slot is short of its optimum, and `missing`
@@ -133,11 +133,11 @@ pub fn price_of(terms: &Terms<'_>, nurse: usize, day: u16, choice: Choice) -> u3
     requires nurse { nurse < nurse_count terms.now.case.now }
     requires day { day < day_count terms.now.case.now }
     requires choice { is_choice_of terms.now.case.now choice ≡ true }
-    ensures price { result ≡ price_by terms.now.case.now (slot_prices terms.now.dual_prices.now)
-        nurse day choice }
+    ensures price { result ≡ price_by terms.now.case.now terms.now.scale
+        (slot_prices terms.now.scale terms.now.dual_prices.now) nurse day choice }
 {
-    let choice_dual_price = choice_dual_price(terms, day, choice);
-    MOST_DUAL_PRICE - choice_dual_price + request_cost(terms.case, nurse, day, choice.shift())
+    let asked = request_cost(terms.case, nurse, day, choice.shift());
+    price_with(terms, day, choice, asked)
 }
 
 /// Whether the cover of some slot is below its minimum.

@@ -4,8 +4,8 @@
 //! The lower bound by any dual prices is defined in `specs/LowerBounds.antt`, that in a node, which branching
 //! `decisions` make, in `specs/Nodes.antt`, what a nurse is offered in `specs/Days.antt`, and how dual prices
 //! follow the cover in a fade in `specs/Fading.antt`. `row_bounds` promises what all nurses cost at least,
-//! and `offer_days` those offers. Dual prices move by covers, and, in `pooled`, by the pooled rows; only
-//! their ranges are proved. So `improve_dual_prices` gives dual prices alone, and no lower bound.
+//! and `offer_days` those offers. Between rounds dual prices move by the pooled rows (`moving`, `pooled`);
+//! only their ranges are proved. So `improve_dual_prices` gives dual prices alone, and no lower bound.
 #![tactic(auto)]
 
 mod bounds;
@@ -24,7 +24,7 @@ pub use fading::{
     raise_uncovered, take_row,
 };
 pub use laws::rows_exist;
-pub use moving::{STEPS_PER_ROUND, improve_dual_prices, prepare_next, subgradient_step};
+pub use moving::{improve_dual_prices, move_by_pooled_rows, prepare_next};
 pub use offers::{Base, Terms};
-pub use pooled::count_pooled_rows;
+pub use pooled::value_by_pooled_rows;
 pub use workspace::{BoundWorkspace, RowSpace};

@@ -7,42 +7,41 @@ ghost use Rattle.roster_laws.specs.Greatest.{extensions_in, greatest_extension_c
 ghost use Rattle.roster_prices.specs.Workspaces.{CountsRound, FitsBound};
 
 use crate::bounds::row_bounds;
+use crate::decisions::Decision;
 use crate::offers::{Base, Terms};
-use crate::pooled::count_pooled_rows;
+use crate::pooled::value_by_pooled_rows;
 use crate::workspace::BoundWorkspace;
 use roster_instance::Case;
 use roster_offers::SearchesRows;
-use roster_slots::{StepLength, StepSchedule, add_to_covers, ascend, farthest};
+use roster_slots::target_cap;
 use roster_state::Meter;
 
-/// How many subgradient steps follow each round of searches when a bound is raised.
-pub const STEPS_PER_ROUND: u16 = 20;
-
-/// Improves the dual prices of a workspace as raising a bound does, but gives no bound. It makes a search for
-/// each nurse in each round, and each search counts at least one extension for each day. It takes no memory.
+/// Improves the dual prices of a workspace as raising a bound does, but gives no bound. They move towards the
+/// penalty of a roster, if it is given. It makes a search for each nurse in each round, and each search
+/// counts at least one extension for each day. It takes no memory.
 pub fn improve_dual_prices<T: SearchesRows>(
     base: &Base<'_>,
-    schedule: StepSchedule,
+    rounds: u16,
+    penalty: Option<u64>,
     workspace: &mut BoundWorkspace<T>,
     meter: &mut Meter,
 )
     requires fits { FitsBound base.now.case.now workspace.old }
-    requires room { meter.old + extensions_in base.now.case.now schedule.rounds ≤ greatest_u64 }
-    ensures made { meter.old + schedule.rounds * (nurse_count base.now.case.now
+    requires room { meter.old + extensions_in base.now.case.now rounds ≤ greatest_u64 }
+    ensures made { meter.old + rounds * (nurse_count base.now.case.now
         * day_count base.now.case.now) ≤ meter.new }
-    ensures counted { meter.new ≤ meter.old + extensions_in base.now.case.now schedule.rounds }
+    ensures counted { meter.new ≤ meter.old + extensions_in base.now.case.now rounds }
     ensures fits { FitsBound base.now.case.now workspace.new }
 {
     base.case.keeps_limits();
     workspace.begin(base.case);
-    for rounds_before in 0..schedule.rounds {
+    for rounds_before in 0..rounds {
         search_rows(base, workspace, meter);
-        prepare_next(base.case, rounds_before, schedule, false, workspace);
+        prepare_next(base.case, rounds_before, penalty, workspace);
     }
 }
 
-/// Searches each nurse's cheapest row by the dual prices of the round. The cover counts it, and the pool
-/// keeps it.
+/// Searches each nurse's cheapest row by the dual prices. The cover counts it, and the pool keeps it.
 fn search_rows<T: SearchesRows>(
     base: &Base<'_>,
     workspace: &mut BoundWorkspace<T>,
@@ -56,9 +55,10 @@ fn search_rows<T: SearchesRows>(
 {
     let terms = Terms {
         case: base.case,
-        dual_prices: &workspace.tried,
+        dual_prices: &workspace.dual_prices,
         given: base.given,
         from: base.from,
+        scale: base.scale,
     };
     row_bounds(&terms, &[], &mut workspace.rows, &mut workspace.pool, meter);
 }
@@ -67,39 +67,15 @@ fn search_rows<T: SearchesRows>(
 /// a good bound at once, but steps from there hardly move.
 pub(crate) const FIRST_DUAL_PRICE: u32 = 30;
 
-/// What it pays in the second round, from which the dual prices move.
+/// What it pays in the second round.
 const SECOND_DUAL_PRICE: u32 = 15;
 
-/// Moves the dual prices after a round, and sets those of the next one: the same, or, if `ascents` is true,
-/// whole points around them by coordinate ascent.
+/// Sets the dual prices of the next round, after one before which `made` rounds were made. How many are yet
+/// to come it isn't told.
 pub fn prepare_next<T: SearchesRows>(
     case: &Case,
     made: u16,
-    schedule: StepSchedule,
-    ascents: bool,
-    workspace: &mut BoundWorkspace<T>,
-)
-    requires fits { FitsBound case.now workspace.old }
-    ensures { FitsBound case.now workspace.new }
-{
-    move_dual_prices(case, made, schedule, workspace);
-    let BoundWorkspace {
-        dual_prices,
-        tried,
-        pool,
-        ..
-    } = workspace;
-    tried.copy(dual_prices);
-    if ascents {
-        ascend(case, dual_prices, tried, pool);
-    }
-}
-
-/// Moves the dual prices after a round, before which `made` rounds were made.
-fn move_dual_prices<T: SearchesRows>(
-    case: &Case,
-    made: u16,
-    schedule: StepSchedule,
+    penalty: Option<u64>,
     workspace: &mut BoundWorkspace<T>,
 )
     requires fits { FitsBound case.now workspace.old }
@@ -109,31 +85,91 @@ fn move_dual_prices<T: SearchesRows>(
         workspace.dual_prices.set_all(case, SECOND_DUAL_PRICE);
         return;
     }
-    let before = made as u64 * schedule.steps as u64;
-    for steps_before in 0..schedule.steps {
-        if steps_before > 0 {
-            count_pooled_rows(case, &[], workspace, &mut []);
-        }
-        let steps = before + steps_before as u64 + 1;
-        subgradient_step(case, StepLength::after(steps, schedule), workspace);
+    if made == 1 {
+        set_better(case, workspace);
+    }
+    move_by_pooled_rows(case, &[], target_cap(case, penalty), workspace, &mut []);
+}
+
+/// Sets the dual prices of the first round or those of the second, whichever have the greater value by the
+/// rows of both.
+fn set_better<T: SearchesRows>(case: &Case, workspace: &mut BoundWorkspace<T>)
+    requires fits { FitsBound case.now workspace.old }
+    ensures { FitsBound case.now workspace.new }
+{
+    workspace.dual_prices.set_all(case, FIRST_DUAL_PRICE);
+    let first = value_by_pooled_rows(case, &[], workspace, &mut []);
+    workspace.dual_prices.set_all(case, SECOND_DUAL_PRICE);
+    let second = value_by_pooled_rows(case, &[], workspace, &mut []);
+    if first > second {
+        workspace.dual_prices.set_all(case, FIRST_DUAL_PRICE);
     }
 }
 
-/// Makes a subgradient step of at most this length, by the cover.
-pub fn subgradient_step<T: SearchesRows>(
+/// How many subgradient steps follow each round of searches.
+const STEPS_PER_ROUND: u16 = 50;
+
+/// Makes the subgradient steps that follow a round of searches in a node, by its pooled rows, and counts how
+/// often each row was the cheapest of its nurse. Their target is at most the cap; they end early if a value
+/// reaches it. Returns the greatest value by the pooled rows.
+pub fn move_by_pooled_rows<T: SearchesRows>(
     case: &Case,
-    step: StepLength,
+    node: &[Decision],
+    cap: u64,
     workspace: &mut BoundWorkspace<T>,
-)
+    uses: &mut [u32],
+) -> u64
+    requires { FitsBound case.now workspace.old }
+    ensures { FitsBound case.now workspace.new }
+{
+    workspace.directions.forget();
+    let mut most = 0;
+    let mut target = cap;
+    for made in 0..STEPS_PER_ROUND {
+        let value = value_by_pooled_rows(case, node, workspace, uses);
+        most = most.max(value);
+        if made == 0 {
+            target = workspace.target.begin_at(value, cap);
+        }
+        if value >= target {
+            break;
+        }
+        if !make_step(case, short_for(target - value, made), workspace) {
+            break;
+        }
+    }
+    most
+}
+
+/// By how much a step is to raise the value, if it is so far below the target: by less and less from step to
+/// step.
+fn short_for(short: u64, made: u16) -> u64
+    requires { made ≤ 50 }
+{
+    let left = (STEPS_PER_ROUND - made) as u64;
+    short.min(MOST_SHORT).saturating_mul(left) / STEPS_PER_ROUND as u64
+}
+
+/// A step is never longer than for a value that is this many fine units below the target.
+const MOST_SHORT: u64 = 1 << 40;
+
+/// Makes a subgradient step by the cover, which is to raise the value by this much. Returns false if no dual
+/// price would move.
+fn make_step<T: SearchesRows>(case: &Case, short: u64, workspace: &mut BoundWorkspace<T>) -> bool
     requires fits { FitsBound case.now workspace.old }
     ensures { FitsBound case.now workspace.new }
 {
     let BoundWorkspace {
         rows,
         dual_prices,
-        covers,
+        directions,
         ..
     } = workspace;
-    add_to_covers(case, dual_prices, step, &rows.cover, covers);
-    dual_prices.follow(covers, step, farthest(covers));
+    directions.set_subgradient(case, dual_prices, &rows.cover);
+    let square = directions.turn();
+    if square == 0 {
+        return false;
+    }
+    dual_prices.step_along(&directions.direction, short, square);
+    true
 }

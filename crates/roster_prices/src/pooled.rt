@@ -9,7 +9,7 @@ use crate::decisions::Decision;
 use crate::workspace::BoundWorkspace;
 use roster_instance::Case;
 use roster_offers::SearchesRows;
-use roster_slots::{ColumnPool, DualPrices, ROWS_PER_NURSE, slot_on};
+use roster_slots::{ColumnPool, DualPrices, ROWS_PER_NURSE, fine_slots_cost, slot_on};
 
 /// A pooled row, and what it costs by the dual prices, as `ColumnPool::cost_by` gives it.
 #[derive(Clone, Copy)]
@@ -18,9 +18,10 @@ struct CheapestRow {
     cost: u64,
 }
 
-/// Sets the cover to that of each nurse's cheapest pooled row in a node, and counts one more use of each of
-/// these. Returns what they cost together; a nurse without such a row costs more than any row.
-pub fn count_pooled_rows<T: SearchesRows>(
+/// The value of the dual prices by the pooled rows of a node: what all slots cost at least and each nurse's
+/// cheapest pooled row, together, in fine units. The greatest dual price is in it once for each nurse and
+/// day. It is no lower bound. Sets the cover to that of these rows, and counts one more use of each.
+pub fn value_by_pooled_rows<T: SearchesRows>(
     case: &Case,
     node: &[Decision],
     bounds: &mut BoundWorkspace<T>,
@@ -36,10 +37,12 @@ pub fn count_pooled_rows<T: SearchesRows>(
         ..
     } = bounds;
     rows.forget();
-    count_cheapest(case, node, pool, dual_prices, &mut rows.cover, uses)
+    let slots = fine_slots_cost(case, dual_prices);
+    slots.saturating_add(count_cheapest(case, node, pool, dual_prices, &mut rows.cover, uses))
 }
 
-/// The same for a cover that counts no row yet.
+/// Adds each nurse's cheapest pooled row in a node to the cover and to the uses. Returns what they cost
+/// together; a nurse without such a row costs more than any row.
 fn count_cheapest(
     case: &Case,
     node: &[Decision],

@@ -1,6 +1,6 @@
 //! The memory of a run that raises a bound.
 
-ghost use Rattle.std.specs.Prelude.{◌≡◌, ◌*◌, IfOk, length};
+ghost use Rattle.std.specs.Prelude.{◌≡◌, ℕ, ◌*◌, IfOk, length};
 ghost use Rattle.roster_slots.specs.Tables.{slot_prices};
 ghost use Rattle.roster_prices.specs.Workspaces.{FitsBound, FitsRows};
 ghost use Rattle.roster_slots.specs.Slots.{SameDualPrices};
@@ -9,7 +9,7 @@ ghost use Rattle.roster_prices.specs.LowerBounds.{first_dual_prices};
 use crate::moving::FIRST_DUAL_PRICE;
 use roster_instance::Case;
 use roster_offers::{BestFault, SearchesRows, Workspace};
-use roster_slots::{ColumnPool, Covers, DualPrices};
+use roster_slots::{ColumnPool, Directions, DualPrices, FINE_PER_POINT, Target};
 use std::alloc::Global;
 
 /// What the searches for the nurses' cheapest rows write into: the workspace of a search, and the cover,
@@ -29,14 +29,16 @@ impl<T: SearchesRows> Drop for RowSpace<T> {
     }
 }
 
-/// What a run that raises a bound writes into: what its searches do, the dual prices with the covers by which
-/// they move, the dual prices of the round, and the column pool. Besides a search's workspace and the pool
-/// that is 64 times 18 bytes for each day: 419 kB at most. It serves one run after another.
+/// What a run that raises a bound writes into: what its searches do, the dual prices with the directions and
+/// the target by which they move, the dual prices that are set aside, and the column pool. Besides a search's
+/// workspace and the pool that is 64 times 18 bytes for each day: 419 kB at most. It serves one run after
+/// another.
 pub struct BoundWorkspace<T: SearchesRows> {
     pub rows: RowSpace<T>,
     pub dual_prices: DualPrices,
-    pub tried: DualPrices,
-    pub(crate) covers: Covers,
+    pub aside: DualPrices,
+    pub(crate) directions: Directions,
+    pub(crate) target: Target,
     pub pool: ColumnPool,
 }
 
@@ -46,8 +48,9 @@ impl<T: SearchesRows> Drop for BoundWorkspace<T> {
         let BoundWorkspace {
             rows: _,
             dual_prices: _,
-            tried: _,
-            covers: _,
+            aside: _,
+            directions: _,
+            target: _,
             pool: _,
         } = self;
     }
@@ -90,11 +93,12 @@ impl<T: SearchesRows> BoundWorkspace<T> {
         Ok(BoundWorkspace {
             rows: RowSpace::for_case(alloc, case)?,
             dual_prices: DualPrices::even(alloc, case, 0)?,
-            tried: DualPrices::even(alloc, case, 0)?,
-            covers: Covers {
-                wanted: vec![in alloc; 0; slots]?,
-                had: vec![in alloc; 0; slots]?,
+            aside: DualPrices::even(alloc, case, 0)?,
+            directions: Directions {
+                subgradient: vec![in alloc; 0; slots]?,
+                direction: vec![in alloc; 0; slots]?,
             },
+            target: Target::with_margin(0),
             pool: ColumnPool::for_case(alloc, case)?,
         })
     }
@@ -103,39 +107,56 @@ impl<T: SearchesRows> BoundWorkspace<T> {
     pub fn begin(&mut self, case: &Case)
         requires { FitsBound case.now self.old }
         ensures fits { FitsBound case.now self.new }
-        ensures dual_prices { SameDualPrices case.now (slot_prices self.new.tried)
-            (first_dual_prices case.now) }
+        ensures dual_prices { (scale : ℕ) → SameDualPrices case.now
+            (slot_prices scale self.new.dual_prices) (first_dual_prices case.now scale) }
     {
-        self.covers.forget();
+        case.keeps_limits();
+        self.target = Target::with_margin(FIRST_MARGIN * case.nurses() as u64);
         self.dual_prices.set_all(case, FIRST_DUAL_PRICE);
-        self.tried.set_all(case, FIRST_DUAL_PRICE);
         self.pool.forget();
     }
 
-    /// Sets the dual prices aside, in the memory of those of a round.
+    /// Begins the steps in a node: they go on from the dual prices, but with a small margin.
+    pub fn begin_node(&mut self, case: &Case)
+        requires { FitsBound case.now self.old }
+        ensures { FitsBound case.now self.new }
+    {
+        case.keeps_limits();
+        let margin = (NODE_MARGIN * case.nurses() as u64).max(LEAST_NODE_MARGIN);
+        self.target = Target::with_margin(margin);
+    }
+
+    /// Sets the dual prices aside.
     pub fn set_dual_prices_aside(&mut self, case: &Case)
         requires { FitsBound case.now self.old }
         ensures { FitsBound case.now self.new }
     {
         let BoundWorkspace {
             dual_prices,
-            tried,
+            aside,
             ..
         } = self;
-        tried.copy(dual_prices);
+        aside.copy(dual_prices);
     }
 
-    /// Takes back the dual prices that were set aside, and forgets how they have moved since.
+    /// Takes back the dual prices that were set aside.
     pub fn take_dual_prices_back(&mut self, case: &Case)
         requires { FitsBound case.now self.old }
         ensures { FitsBound case.now self.new }
     {
-        self.covers.forget();
         let BoundWorkspace {
             dual_prices,
-            tried,
+            aside,
             ..
         } = self;
-        dual_prices.copy(tried);
+        dual_prices.copy(aside);
     }
 }
+
+/// The margin of the first target, in fine units for each nurse: 20 points.
+const FIRST_MARGIN: u64 = 20 * FINE_PER_POINT as u64;
+
+/// That of the first one in a node: half a point for each nurse, and at least five points.
+const NODE_MARGIN: u64 = FINE_PER_POINT as u64 / 2;
+
+const LEAST_NODE_MARGIN: u64 = 5 * FINE_PER_POINT as u64;

@@ -175,18 +175,20 @@ the instance that keep the hard rules. There may be none that costs so little.
 The hard rules are checked first, as for 'roster cost'. A log goes to standard
 error, each line as soon as it is known:
   start 3150     what the roster costs
-  round 72 750   the bound that round 72 found. A round that finds no greater one
+  round 29 750   the bound that round 29 found. A round that finds no greater one
                  has no line.
-A round takes each nurse once, as a round of 'roster improve' does. More rounds
-usually find a greater bound, but not always. With --rounds 0 the bound is 0. If
+A round takes each nurse once, as a round of 'roster improve' does. A longer run
+begins with the rounds of a shorter one, so its bound is at least as great. If
 the bound reaches what the roster costs, the run ends: none of these rosters is
-cheaper.
+cheaper. The rounds also end early if 30 in a row have each gained less than a
+quarter of a point. With --rounds 0 the bound is 0, or what branchings find.
 
 With --nodes N the run then grows a tree, with at most N branchings. Its first
 node holds all rosters. A branching divides those of a node into two nodes:
 those in which a nurse makes a certain choice on a day, and those in which she
 doesn't. The bound is the least of the bounds of the leaves, and the leaf that
-has it is divided next. The log numbers the branchings as further rounds.
+has it is divided next. The log numbers the branchings as further rounds, after
+those that --rounds allows.
 
 With --from V, weeks 0 to V - 1 are frozen: the bound holds for those rosters in
 which each nurse's days in them, and those of the section FIXED, are as given.

@@ -1,1 +1,2 @@
 pub mod PoolLemmas
+pub mod PriceLemmas

@@ -1,5 +1,5 @@
--- The dual prices of slots, and the least that slots cost by them. A slot is a day, a shift and a skill (our
--- own).
+-- The dual prices of slots, and the least that slots cost by them, both in parts of a point. A slot is a day,
+-- a shift and a skill (our own).
 use Rattle.std.specs.Prelude.{◌≡◌, ℕ, ◌+◌, ◌-◌, ◌*◌, ◌<◌, ◌≤◌, min, max, Bool, ◌||◌, nat_lt, if◌then◌else◌}
 use Rattle.roster_instance.specs.declared.choice.Choice.{Choice}
 use Rattle.roster_instance.specs.declared.choice.Choice.TheVariants.{Off, Work}
@@ -7,18 +7,21 @@ use Rattle.roster_instance.specs.Counting.{sum_below}
 use Rattle.roster_instance.specs.Limits.{most_small}
 use Rattle.roster_instance.specs.Meaning.{Meaning, day_count, minimum, optimum, shift_count, skill_count}
 use Rattle.roster_rules.specs.Weights.{staffing_weight}
+use Rattle.roster_offers.specs.Lists.{most_scale}
 
--- ---- dual prices: the points that each slot, by day, shift and skill, pays to a nurse who works there
+-- ---- dual prices: the parts of a point that each slot, by day, shift and skill, pays to a nurse who works
+-- there
 
 abbrev pub SlotPrices : Type 0
 SlotPrices = (day shift skill : ℕ) → ℕ
 
+-- the greatest, in points
 abbrev pub most_dual_price : ℕ
 most_dual_price = 200000
 
 -- no dual price is above the greatest
-abbrev pub AreDualPrices : SlotPrices → Type 0
-AreDualPrices w = (d s k : ℕ) → w d s k ≤ most_dual_price
+abbrev pub AreDualPrices : (scale : ℕ) → SlotPrices → Type 0
+AreDualPrices scale w = (d s k : ℕ) → w d s k ≤ scale * most_dual_price
 
 -- what a nurse earns on a day: the dual price of her slot
 abbrev pub choice_dual_price : SlotPrices → ℕ → Choice → ℕ
@@ -29,24 +32,25 @@ choice_dual_price w d (Work s k) = w d s.0 k.0
 
 -- what a slot costs with this many nurses: the penalty for those short of the optimum, and the dual price of
 -- each
-abbrev pub slot_cost : Meaning → SlotPrices → (d s k : ℕ) → ℕ → ℕ
-slot_cost c w d s k nurses = staffing_weight * (optimum c d s k - nurses) + w d s k * nurses
+abbrev pub slot_cost : Meaning → (scale : ℕ) → SlotPrices → (d s k : ℕ) → ℕ → ℕ
+slot_cost c scale w d s k nurses =
+    scale * (staffing_weight * (optimum c d s k - nurses)) + w d s k * nurses
 
--- by the limits of a case that is at most 199,829,970
+-- by the limits of a case that is at most 199,829,970 points, 25,578,236,160 parts at the greatest scale
 abbrev pub most_slot_cost : ℕ
-most_slot_cost = (staffing_weight + most_dual_price) * most_small
+most_slot_cost = most_scale * ((staffing_weight + most_dual_price) * most_small)
 
 -- with the minimum or more, a slot costs least at the minimum, or at the optimum if that is more
-abbrev pub slot_bound : Meaning → SlotPrices → (d s k : ℕ) → ℕ
-slot_bound c w d s k =
-    min (slot_cost c w d s k (minimum c d s k))
-    (slot_cost c w d s k (max (minimum c d s k) (optimum c d s k)))
+abbrev pub slot_bound : Meaning → (scale : ℕ) → SlotPrices → (d s k : ℕ) → ℕ
+slot_bound c scale w d s k =
+    min (slot_cost c scale w d s k (minimum c d s k))
+    (slot_cost c scale w d s k (max (minimum c d s k) (optimum c d s k)))
 
 -- the least of all slots together
-abbrev pub slots_bound : Meaning → SlotPrices → ℕ
-slots_bound c w =
+abbrev pub slots_bound : Meaning → (scale : ℕ) → SlotPrices → ℕ
+slots_bound c scale w =
     sum_below (day_count c)
-    (λ d. sum_below (shift_count c) (λ s. sum_below (skill_count c) (slot_bound c w d s)))
+    (λ d. sum_below (shift_count c) (λ s. sum_below (skill_count c) (slot_bound c scale w d s)))
 
 -- ---- dual prices to begin with
 

@@ -1,12 +1,13 @@
 //! The dual price of each slot: what it pays to a nurse who works there.
 
-ghost use Rattle.std.specs.Prelude.{◌≡◌, ◌≢◌, ℕ, ◌+◌, ◌-◌, ◌*◌, ◌/◌, ◌%◌, ◌<◌, ◌≤◌, IfOk, length, min, replicate, slice_index_or};
+ghost use Rattle.std.specs.Prelude.{◌≡◌, ◌≢◌, ℕ, ◌+◌, ◌-◌, ◌*◌, ◌/◌, ◌%◌, ◌<◌, ◌≤◌, IfOk, false, length, min, replicate, slice_index_or, true};
 ghost use Rattle.roster_instance.specs.Meaning.{day_count};
-ghost use Rattle.roster_slots.specs.Tables.{most_fine, fine_per_point, slot_prices};
+ghost use Rattle.roster_offers.specs.Lists.{most_scale};
+ghost use Rattle.roster_slots.specs.Tables.{most_fine, fine_per_point, rounded, slot_prices};
 ghost use Rattle.roster_slots.specs.Slots.{AreDualPrices, SameDualPrices, asks_for_nurses, even_dual_prices, most_dual_price};
 
 use crate::slots::need_at;
-use crate::steps::{Covers, MoveSizes, StepLength};
+use crate::steps::NURSE_PARTS;
 use roster_instance::{Case, Shift, Skill};
 use std::alloc::{AllocError, Global};
 use std::marker::Model;
@@ -18,8 +19,8 @@ pub const MOST_DUAL_PRICE: u32 = 200_000;
 /// How many fine units make a point. Dual prices are held in fine units.
 pub const FINE_PER_POINT: u32 = 16_384;
 
-/// The dual price of each slot (a day, a shift and a skill): the points that it pays to a nurse who works
-/// there. They are held in fine units, 64 for each day, and rounded to the nearest point for use.
+/// The dual price of each slot (a day, a shift and a skill): what it pays to a nurse who works there. They
+/// are held in fine units, 64 for each day, and rounded for use to the nearest part of a point.
 pub struct DualPrices {
     pub(crate) days: u16,
     pub(crate) fine: Vec<u32>,
@@ -61,24 +62,26 @@ impl DualPrices {
         })
     }
 
-    /// The dual price of a slot, in points.
-    pub fn at(&self, day: u16, shift: Shift, skill: Skill) -> u32
+    /// The dual price of a slot at a scale, in parts of a point.
+    pub fn at(&self, scale: u32, day: u16, shift: Shift, skill: Skill) -> u32
+        requires scale { scale ≤ most_scale }
         requires day { day < self.now.days }
         requires shift { shift.0 < 8 }
         requires skill { skill.0 < 8 }
-        ensures dual_price { result ≡ slot_prices self.now day shift.0 skill.0 }
-        ensures within { result ≤ most_dual_price }
+        ensures dual_price { result ≡ slot_prices scale self.now day shift.0 skill.0 }
+        ensures within { result ≤ scale * most_dual_price }
     {
-        let fine = self.fine[64 * day as usize + 8 * shift.0 as usize + skill.0 as usize];
-        (fine + FINE_PER_POINT / 2) / FINE_PER_POINT
+        let slot = 64 * day as usize + 8 * shift.0 as usize + skill.0 as usize;
+        rounded(scale, self.fine[slot])
     }
 
-    /// The dual price of a slot, in points; 0 beyond the slots of all days.
-    pub(crate) fn points_or_none(&self, slot: usize) -> u32
-        ensures { result ≤ most_dual_price }
+    /// The same for a slot by its index; 0 beyond the slots of all days.
+    pub(crate) fn at_or_none(&self, scale: u32, slot: usize) -> u32
+        requires { scale ≤ most_scale }
+        ensures { result ≤ scale * most_dual_price }
     {
         if slot < self.fine.len() {
-            (self.fine[slot] + FINE_PER_POINT / 2) / FINE_PER_POINT
+            rounded(scale, self.fine[slot])
         } else {
             0
         }
@@ -100,13 +103,14 @@ impl DualPrices {
         paid
     }
 
-    /// Gives each slot that asks for nurses the same dual price, and the others 0.
+    /// Gives each slot that asks for nurses the same dual price, in points, and the others 0. At each scale
+    /// that is a whole number of parts.
     pub fn set_all(&mut self, case: &Case, dual_price: u32)
         requires dual_price { dual_price ≤ most_dual_price }
         requires days { self.old.days ≡ day_count case.now }
         ensures days { self.new.days ≡ self.old.days }
-        ensures even { SameDualPrices case.now (slot_prices self.new)
-            (even_dual_prices case.now dual_price) }
+        ensures even { (scale : ℕ) → SameDualPrices case.now (slot_prices scale self.new)
+            (even_dual_prices case.now (scale * dual_price)) }
     {
         case.keeps_limits();
         for slot in 0..self.fine.len() {
@@ -122,31 +126,21 @@ impl DualPrices {
         self.fine.copy_from_slice(&other.fine);
     }
 
-    /// Sets the dual price of a slot to this many points, or to the greatest if that is less.
-    pub(crate) fn put_points(&mut self, slot: usize, points: u32)
-        requires { slot < 64 * self.old.days }
-        ensures { self.new.days ≡ self.old.days }
-    {
-        self.fine[slot] = FINE_PER_POINT * points.min(MOST_DUAL_PRICE);
-    }
-
-    /// Makes a subgradient step: moves each dual price up if its slot wanted more nurses than it had, and
-    /// down if it wanted fewer. It moves by the whole step length if the two are `far` apart or more, and
-    /// else by a share of it.
-    pub fn follow(&mut self, covers: &Covers, step: StepLength, far: u32)
-        requires wanted { length covers.now.wanted.items ≡ 64 * self.old.days }
-        requires had { length covers.now.had.items ≡ 64 * self.old.days }
-        requires far { 0 < far }
+    /// Makes a subgradient step along these directions, of which `square` is the square. The step is as long
+    /// as would raise the value by `short` fine units if it went on rising as it does at the dual prices
+    /// (Polyak's step length).
+    pub fn step_along(&mut self, direction: &[i32], short: u64, square: u64)
+        requires direction { length direction.now ≡ 64 * self.old.days }
+        requires square { 0 < square }
         ensures { self.new.days ≡ self.old.days }
     {
         for slot in 0..self.fine.len() {
-            let (wanted, had) = (covers.wanted[slot], covers.had[slot]);
-            if wanted == had {
+            let towards = direction[slot];
+            if towards == 0 {
                 continue;
             }
-            let apart = wanted.abs_diff(had) as u64;
-            let share = (apart * step.most as u64 / far as u64).min(step.most as u64) as u32;
-            self.fine[slot] = moved(self.fine[slot], wanted, had, step.by(share));
+            let by = move_size(towards.unsigned_abs(), short, square);
+            self.fine[slot] = moved(self.fine[slot], towards > 0, by);
         }
     }
 
@@ -170,12 +164,23 @@ impl DualPrices {
         self.fine[slot] = fine.min(MOST_FINE);
     }
 
-    /// A law: no dual price is above the greatest.
+    /// A law: at no scale is a dual price above the greatest.
     pub fn keep_most(&self)
-        ensures { AreDualPrices (slot_prices self.now) }
+        ensures { (scale : ℕ) → AreDualPrices scale (slot_prices scale self.now) }
     {
         let _ = &self.fine;
     }
+}
+
+/// Fine units, rounded to the nearest part of a point.
+fn rounded(scale: u32, fine: u32) -> u32
+    requires scale { scale ≤ most_scale }
+    requires fine { fine ≤ most_fine }
+    ensures rounded { result ≡ rounded scale fine }
+    ensures within { result ≤ scale * most_dual_price }
+{
+    let unit = FINE_PER_POINT as u64;
+    ((scale as u64 * fine as u64 + unit / 2) / unit) as u32
 }
 
 /// This dual price in fine units if the slot asks for nurses, else 0.
@@ -201,20 +206,29 @@ fn asks_for_nurses(case: &Case, slot: usize) -> bool
     need.minimum > 0 || need.optimum > 0
 }
 
-/// A dual price in fine units after its move: up if nurses are wanted, down if there are too many.
-fn moved(fine: u32, wanted: u32, had: u32, by: MoveSizes) -> u32
+/// By how many fine units a dual price moves in a step, if its direction has this size.
+fn move_size(size: u32, short: u64, square: u64) -> u32
+    requires { 0 < square }
+    ensures { result ≤ most_fine }
+{
+    let by = short
+        .saturating_mul(NURSE_PARTS as u64)
+        .saturating_mul(size as u64)
+        / square;
+    by.min(MOST_FINE as u64) as u32
+}
+
+/// A dual price in fine units after its move, up or down.
+fn moved(fine: u32, rises: bool, by: u32) -> u32
     requires { fine ≤ most_fine }
-    ensures up { had < wanted → result ≡ min (fine + by.up) most_fine }
-    ensures down { wanted < had → result ≡ fine - by.down }
-    ensures same { had ≡ wanted → result ≡ fine }
+    ensures up { rises ≡ true → result ≡ min (fine + by) most_fine }
+    ensures down { rises ≡ false → result ≡ fine - by }
     ensures within { result ≤ most_fine }
 {
-    if had < wanted {
-        fine.saturating_add(by.up).min(MOST_FINE)
-    } else if wanted < had {
-        fine.saturating_sub(by.down)
+    if rises {
+        fine.saturating_add(by).min(MOST_FINE)
     } else {
-        fine
+        fine.saturating_sub(by)
     }
 }
 

@@ -1,7 +1,8 @@
 //! The column pool: rows that searches found, by which dual prices move between two rounds of searches.
 
-ghost use Rattle.std.specs.Prelude.{◌≡◌, ◌+◌, ◌*◌, ◌<◌, IfOk, length};
+ghost use Rattle.std.specs.Prelude.{◌≡◌, ◌+◌, ◌*◌, ◌<◌, ◌≤◌, IfOk, length};
 ghost use Rattle.roster_instance.specs.Meaning.{day_count, nurse_count};
+ghost use Rattle.roster_offers.specs.Lists.{most_scale};
 ghost use Rattle.roster_slots.specs.ColumnPool.{FitsPool};
 
 use crate::dual_prices::{DualPrices, FINE_PER_POINT, MOST_DUAL_PRICE, MOST_FINE};
@@ -11,19 +12,17 @@ use std::alloc::{AllocError, Global};
 /// How many rows are kept for each nurse.
 pub const ROWS_PER_NURSE: usize = 64;
 
-/// What is recorded of a pooled row: what it costs its nurse without dual prices, in points; the turn in
-/// which it was last found, 0 if there is no row; and by how many points it is dearer than her cheapest row
-/// by the dual prices of a coordinate ascent.
+/// What is recorded of a pooled row: what it costs its nurse without dual prices, in points, and the turn in
+/// which it was last found, 0 if there is no row.
 #[derive(Clone, Copy, Default)]
 pub struct PoolEntry {
     pub cost: u32,
     pub turn: u32,
-    pub above: u32,
 }
 
 /// For each nurse the rows that were found last, 64 at most and no row twice. A row is held as its slot on
-/// each day; a day off has a slot beyond those of all days. For each nurse that takes 128 bytes a day and 768
-/// more: 18,944,000 bytes at most.
+/// each day; a day off has a slot beyond those of all days. For each nurse that takes 128 bytes a day and 512
+/// more: 18,841,600 bytes at most.
 pub struct ColumnPool {
     pub(crate) days: usize,
     pub(crate) turn: u32,
@@ -76,27 +75,18 @@ impl ColumnPool {
         self.entries.fill(PoolEntry::default());
     }
 
-    /// Keeps a row of a nurse, which a search found at the cost `found` by these dual prices. If the nurse
-    /// has no free entry, the row that was found longest ago goes.
-    pub fn keep(
-        &mut self,
-        case: &Case,
-        nurse: usize,
-        row: &[Choice],
-        found: u64,
-        dual_prices: &DualPrices,
-    )
+    /// Keeps a row of a nurse, which costs her this many points without dual prices. If the nurse has no free
+    /// entry, the row that was found longest ago goes.
+    pub fn keep(&mut self, case: &Case, nurse: usize, row: &[Choice], cost: u32)
         requires nurse { nurse < nurse_count case.now }
         requires fits { FitsPool case.now self.old }
-        requires dual_prices { dual_prices.now.days ≡ day_count case.now }
         ensures { FitsPool case.now self.new }
     {
         let at = self.room_for(case, nurse, row);
         self.turn = self.turn.saturating_add(1);
         self.entries[at] = PoolEntry {
-            cost: unreduced_cost(row, found, dual_prices),
+            cost,
             turn: self.turn,
-            above: 0,
         };
         self.put_row(case, at, row);
     }
@@ -200,14 +190,17 @@ pub fn slot_on(choice: Choice, day: usize) -> u16 {
     slot.min(OFF_SLOT as usize) as u16
 }
 
-/// What a row that was found at this cost by dual prices costs its nurse without them, or the greatest
-/// number.
-fn unreduced_cost(row: &[Choice], found: u64, dual_prices: &DualPrices) -> u32 {
+/// What a row that was found at this cost by dual prices, in parts of a point, costs its nurse without them,
+/// in points, or the greatest number.
+pub fn unreduced_cost(row: &[Choice], found: u64, scale: u32, dual_prices: &DualPrices) -> u32
+    requires some { 0 < scale }
+    requires few { scale ≤ most_scale }
+{
     let mut cost = found;
     for day in 0..row.len() {
         let slot = slot_on(row[day], day) as usize;
-        let unpaid = MOST_DUAL_PRICE - dual_prices.points_or_none(slot);
+        let unpaid = scale * MOST_DUAL_PRICE - dual_prices.at_or_none(scale, slot);
         cost = cost.saturating_sub(unpaid as u64);
     }
-    cost.min(u32::MAX as u64) as u32
+    (cost / scale as u64).min(u32::MAX as u64) as u32
 }

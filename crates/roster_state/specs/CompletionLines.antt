@@ -3,17 +3,20 @@ use Rattle.std.specs.Prelude.{◌≡◌, ℕ, ◌+◌, ◌*◌, ◌≤◌, true,
 use Rattle.roster_instance.specs.declared.rules.Limits.{Limits}
 use Rattle.roster_instance.specs.RunLaw.{day_violations}
 use Rattle.roster_instance.specs.Sizes.{cap}
-use Rattle.roster_rules.specs.Weights.{shift_run_weight}
 use Rattle.roster_state.specs.declared.line.LineCosts.{LineCosts}
 
--- the most that a day costs whatever comes after it, as completion bounds count it
-abbrev pub most_leave : ℕ
-most_leave = 713691674
+-- what a missing or extra day of a shift's run costs at most: 15 points in 128 parts each
+abbrev pub most_weight : ℕ
+most_weight = 1920
 
--- a completion bound is at most that and what the run of a shift misses. It is within the bound of labels,
--- being the label of a coarser state.
+-- the most that a day costs and what comes after it, as completion bounds count it, 2^30: what is more counts
+-- as this, so that what the run of a shift misses can be added, 125,829,120 at most
+abbrev pub most_leave : ℕ
+most_leave = 1073741824
+
+-- a completion bound is at most that and what the run of a shift misses
 abbrev pub most_completion_bound : ℕ
-most_completion_bound = 714740250
+most_completion_bound = 1199570944
 
 -- no completion bound is above that
 abbrev pub AreLow : List ℕ → Type 0
@@ -26,13 +29,13 @@ longer run limits = min (run + 1) (cap limits)
 -- a number is no more than what leaving a shift costs after a run of it
 abbrev pub IsUnderLeave : LineCosts → (q completion_bound : ℕ) → Type 0
 IsUnderLeave costs q completion_bound =
-    completion_bound ≤ costs.leave + shift_run_weight * day_violations costs.run q false
+    completion_bound ≤ costs.leave + costs.weight * day_violations costs.run q false
 
 -- a number is no more than what staying costs after a run of a shift, and the completion bound after it, of a
 -- line
 abbrev pub IsUnderStay : LineCosts → (after : List ℕ) → (q completion_bound : ℕ) → Type 0
 IsUnderStay costs after q completion_bound =
-    completion_bound ≤ costs.stay + shift_run_weight * day_violations costs.run q true
+    completion_bound ≤ costs.stay + costs.weight * day_violations costs.run q true
     + slice_index_or after (longer q costs.run) 0
 
 -- it keeps its length, and each of its completion bounds was counted once for each of its day's offers

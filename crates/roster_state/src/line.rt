@@ -4,17 +4,18 @@
 ghost use Rattle.std.specs.Prelude.{◌≡◌, ◌+◌, ◌*◌, ◌<◌, ◌≤◌, ℕ, length, slice_index_or};
 ghost use Rattle.roster_bundle.specs.Limits.{greatest_u64};
 ghost use Rattle.roster_instance.specs.Sizes.{cap};
-ghost use Rattle.roster_state.specs.CompletionLines.{AreLow, IsCounted, IsUnderLeave, IsUnderStay, most_completion_bound, most_leave};
+ghost use Rattle.roster_state.specs.CompletionLines.{AreLow, IsCounted, IsUnderLeave, IsUnderStay, most_completion_bound, most_weight};
 
 use crate::meter::Meter;
 use roster_instance::Limits;
-use roster_rules::weights::SHIFT_RUN;
 
-/// What a line is set by: the limits of the last shift's run, the least costs of leaving the shift and of
-/// staying in it, and the number of cells that are computed.
+/// What a line is set by: the limits of the last shift's run, what each missing or extra day of it costs,
+/// the least costs of leaving the shift and of staying in it, and the number of cells that are computed.
+/// All costs are in the same parts of a point.
 #[derive(Clone, Copy)]
 pub struct LineCosts {
     pub run: Limits,
+    pub weight: u32,
     pub leave: u32,
     pub stay: u32,
     pub count: usize,
@@ -27,7 +28,8 @@ pub fn set_line(costs: LineCosts, offers: usize, after: &[u32], here: &mut [u32]
     requires after_long { cap costs.run < length after.now }
     requires capped { cap costs.run < length here.old }
     requires long { length here.old ≤ 1000 }
-    requires leave { costs.leave ≤ most_leave }
+    requires weight { costs.weight ≤ most_weight }
+    requires leave { costs.leave + costs.weight * 65536 ≤ most_completion_bound }
     requires stay { costs.stay ≤ most_completion_bound }
     requires low { AreLow after.now }
     requires extensions { meter.old + length here.old * offers ≤ greatest_u64 }
@@ -62,7 +64,8 @@ fn set_cells(costs: LineCosts, after: &[u32], here: &mut [u32])
     requires after_long { cap costs.run < length after.now }
     requires capped { cap costs.run < length here.old }
     requires long { length here.old ≤ 1000 }
-    requires leave { costs.leave ≤ most_leave }
+    requires weight { costs.weight ≤ most_weight }
+    requires leave { costs.leave + costs.weight * 65536 ≤ most_completion_bound }
     requires stay { costs.stay ≤ most_completion_bound }
     requires low { AreLow after.now }
     ensures leaves { (q : ℕ) → q < length here.new →
@@ -74,6 +77,7 @@ fn set_cells(costs: LineCosts, after: &[u32], here: &mut [u32])
 {
     let LineCosts {
         run,
+        weight,
         leave,
         stay,
         count,
@@ -84,8 +88,8 @@ fn set_cells(costs: LineCosts, after: &[u32], here: &mut [u32])
     // everything.
     here[0] = 0;
     'open: for place in 1..open {
-        let missing = SHIFT_RUN * (run.least as u32).saturating_sub(place as u32);
-        let extra = SHIFT_RUN * run.day_violations(place as u32, true);
+        let missing = weight * (run.least as u32).saturating_sub(place as u32);
+        let extra = weight * run.day_violations(place as u32, true);
         here[place] = (leave + missing).min(stay + extra + after[place + 1]);
     }
 
@@ -94,7 +98,7 @@ fn set_cells(costs: LineCosts, after: &[u32], here: &mut [u32])
     let completion_bound = if count <= cap {
         0
     } else {
-        leave.min(stay + SHIFT_RUN + after[cap])
+        leave.min(stay + weight + after[cap])
     };
     'full: for place in open..here.len() {
         here[place] = completion_bound;

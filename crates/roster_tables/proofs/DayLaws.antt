@@ -283,7 +283,7 @@ module _ (days : SearchDays) (boxes : List StateBox) (few : FewRuns (sizes_of da
   pub end_more : {old labels new : List ℕ} → EndDone days boxes (group_key last run shift_run) old labels → EndLabels (IsReachableLike days.search.case.now days.search.nurse boxes (group_of last run shift_run)) days new → KeepsRest (code_of days.ranges (group_of last run shift_run)) (group_places days) labels new
       → EndDone days boxes (group_key last run (shift_run + 1)) old new
   end_more {old} {labels} {new} done here outside = record {
-    labels_are = cells_grouped days.search.case.now days.search.nurse boxes few last run shift_run (omega (arith, in_run, few.run)) (omega (arith, in_shift_run, few.shift_run)) (λ s label. label ≡ label_of (best_at_end days.search.case.now days.search.nurse s)) (λ j. j) labels new
+    labels_are = cells_grouped days.search.case.now days.search.nurse boxes few last run shift_run (omega (arith, in_run, few.run)) (omega (arith, in_shift_run, few.shift_run)) (λ s label. label ≡ label_of (best_at_end days.search.case.now days.search.nurse days.search.scale s)) (λ j. j) labels new
         (λ j low. outside.others.before j (omega (arith, low, ap (λ x. code_of x (group_of last run shift_run)) (sym days.own_ranges)))) here done.labels_are;
     length_stays = outside.length_stays ∙ done.length_stays;
   }

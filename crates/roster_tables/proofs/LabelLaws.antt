@@ -1,5 +1,5 @@
 -- The label of a state by one offer, and by one more offer.
-use Rattle.std.proofs.Common.{◌≡◌, ◌∙◌, ◌+◌, ◌<◌, ◌≤◌, ◌⊎◌, ℕ, suc, inl, inr, ap, append_assoc, arith, refl, sym, List, [], ◌∷◌, ◌++◌, length, min, subst, slice_index_or, take, Option, Some, None}
+use Rattle.std.proofs.Common.{◌≡◌, ◌∙◌, ◌+◌, ◌*◌, ◌<◌, ◌≤◌, ◌⊎◌, ℕ, suc, inl, inr, ap, append_assoc, arith, refl, sym, List, [], ◌∷◌, ◌++◌, length, min, subst, slice_index_or, take, Option, Some, None}
 use Rattle.std.proofs.Math.Seq.{take-suc}
 use Rattle.std.proofs.lemmas.Bool.{cases_lt}
 use Rattle.std.proofs.lemmas.List.{length-take-le}
@@ -12,7 +12,7 @@ use Rattle.roster_state.specs.Transition.{transition_of}
 use Rattle.roster_offers.specs.declared.offer.Offer.{Offer}
 use Rattle.roster_offers.specs.ByStates.{best_after}
 use Rattle.roster_offers.specs.Cheapest.{Priced, cheaper, cheapest, raised}
-use Rattle.roster_offers.specs.Offers.{dearer}
+use Rattle.roster_offers.specs.Offers.{dearer, scaled}
 use Rattle.roster_offers.specs.Lists.{no_row}
 use Rattle.roster_offers.proofs.Cheapest.{cheapest_more, keeps_first, takes_second}
 use Rattle.roster_tables.specs.Tables.{AreLabels, AreOfLeast, BestOnward, PointsToBest, SearchDay, IsReachable, best_by, label_of}
@@ -28,13 +28,13 @@ label-raised k g (Some p) = omega arith
 -- ---- by one offer
 
 module _ (c : Meaning) (at : SearchDay) (later : BestOnward) (s : Summary) (offer : Offer) where
-  by_transition : (transition : Option (Summary × ℕ)) → transition_of c at.nurse at.day s (shift_of offer.choice) ≡ transition → label_of (best_by c at later s offer) ≡ label_of (best_after offer (dearer offer.price transition) later)
-  by_transition transition e = ap (λ t. label_of (best_after offer (dearer offer.price t) later)) e
+  by_transition : (transition : Option (Summary × ℕ)) → transition_of c at.nurse at.day s (shift_of offer.choice) ≡ transition → label_of (best_by c at later s offer) ≡ label_of (best_after offer (dearer offer.price (scaled at.scale transition)) later)
+  by_transition transition e = ap (λ t. label_of (best_after offer (dearer offer.price (scaled at.scale t)) later)) e
 
-  pub label_by_offer : (next : Summary) (cost label : ℕ) → transition_of c at.nurse at.day s (shift_of offer.choice) ≡ Some (next, cost) → label ≡ label_of (later next) → min (offer.price + cost + label) no_row ≡ label_of (best_by c at later s offer)
+  pub label_by_offer : (next : Summary) (cost label : ℕ) → transition_of c at.nurse at.day s (shift_of offer.choice) ≡ Some (next, cost) → label ≡ label_of (later next) → min (offer.price + at.scale * cost + label) no_row ≡ label_of (best_by c at later s offer)
   label_by_offer next cost label e is =
-      ap (λ l. min (offer.price + cost + l) no_row) is
-      ∙ sym (label-raised (offer.price + cost) (λ rest. offer ∷ rest) (later next))
+      ap (λ l. min (offer.price + at.scale * cost + l) no_row) is
+      ∙ sym (label-raised (offer.price + at.scale * cost) (λ rest. offer ∷ rest) (later next))
       ∙ sym (by_transition (Some (next, cost)) e)
 
   pub label_refused : transition_of c at.nurse at.day s (shift_of offer.choice) ≡ None → no_row ≡ label_of (best_by c at later s offer)
@@ -125,5 +125,5 @@ module _ (c : Meaning) (at : SearchDay) (ranges : Sizes) (sizes : ranges ≡ siz
   transition_low t reachable = omega (arith, label_of_next t reachable, label_within (later t))
 
   pub label_at-is : (s : Summary) (offer : Offer) (t : Summary × ℕ) → transition_of c at.nurse at.day s (shift_of offer.choice) ≡ Some t → IsReachable c at.nurse boxes t.0
-      → min (offer.price + t.1 + slice_index_or labels (code_of ranges t.0) 0) no_row ≡ label_of (best_by c at later s offer)
+      → min (offer.price + at.scale * t.1 + slice_index_or labels (code_of ranges t.0) 0) no_row ≡ label_of (best_by c at later s offer)
   label_at-is s offer t e reachable = label_by_offer c at later s offer t.0 t.1 (slice_index_or labels (code_of ranges t.0) 0) e (label_of_next t.0 reachable)

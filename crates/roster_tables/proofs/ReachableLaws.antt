@@ -13,34 +13,34 @@ use Rattle.roster_state.proofs.CodeLemmas.{fits-all}
 use Rattle.roster_state.proofs.RangeLemmas.{next_fits}
 use Rattle.roster_state.proofs.Reachable.{next_can_be}
 use Rattle.roster_offers.specs.declared.offer.Offer.{Offer}
-use Rattle.roster_tables.specs.Tables.{LeadsOn, SearchDay, IsReachable}
+use Rattle.roster_tables.specs.Tables.{LeadsOn, IsReachable}
 
 next_last : (c : Meaning) (n day : ℕ) (s : Summary) (shift : Option Shift) → (next_of c n day s shift).last ≡ shift
 unfolding next_of
 next_last c n day s shift = λ i. shift
 
 -- wider boxes after the day
-pub leads_kept : (c : Meaning) (at : SearchDay) (boxes after wider : List StateBox) (offers : List Offer) → ((digit : ℕ) (s : Summary) → InBox (box_at after digit) s → InBox (box_at wider digit) s) → All (LeadsOn c at boxes after) offers → All (LeadsOn c at boxes wider) offers
-leads_kept c at boxes after wider offers keeps old k d within s t reachable is =
-    let there = old k d within s t reachable is in
+pub leads_kept : (c : Meaning) (n d : ℕ) (boxes after wider : List StateBox) (offers : List Offer) → ((digit : ℕ) (s : Summary) → InBox (box_at after digit) s → InBox (box_at wider digit) s) → All (LeadsOn c n d boxes after) offers → All (LeadsOn c n d boxes wider) offers
+leads_kept c n d boxes after wider offers keeps old k x within s t reachable is =
+    let there = old k x within s t reachable is in
     record { fits = there.fits; can_be = there.can_be; inside = keeps (shift_digit t.0.last) t.0 there.inside }
 
-module _ (c : Meaning) (at : SearchDay) (boxes after : List StateBox) (offer : Offer) (shift : Option Shift) (is : shift ≡ shift_of offer.choice) (known : IfSome shift (λ u. u.0 < shift_count c))
-    (leads : (s : Summary) → shift_digit s.last < shift_count c + 1 → InBox (box_at boxes (shift_digit s.last)) s → forbids c.successions s.last shift ≡ false → InBox (box_at after (shift_digit shift)) (next_of c at.nurse at.day s shift)) where
-  module _ (s : Summary) (reachable : IsReachable c at.nurse boxes s) where
+module _ (c : Meaning) (n d : ℕ) (boxes after : List StateBox) (offer : Offer) (shift : Option Shift) (is : shift ≡ shift_of offer.choice) (known : IfSome shift (λ u. u.0 < shift_count c))
+    (leads : (s : Summary) → shift_digit s.last < shift_count c + 1 → InBox (box_at boxes (shift_digit s.last)) s → forbids c.successions s.last shift ≡ false → InBox (box_at after (shift_digit shift)) (next_of c n d s shift)) where
+  module _ (s : Summary) (reachable : IsReachable c n boxes s) where
     abbrev next : Summary
-    next = next_of c at.nurse at.day s shift
+    next = next_of c n d s shift
 
-    next_reachable : forbids c.successions s.last shift ≡ false → IsReachable c at.nurse after next
+    next_reachable : forbids c.successions s.last shift ≡ false → IsReachable c n after next
     next_reachable allowed = record {
-      fits = next_fits c at.nurse at.day s shift known;
-      can_be = next_can_be c at.nurse at.day s shift reachable.can_be;
-      inside = subst (λ l. InBox (box_at after (shift_digit l)) next) (sym (next_last c at.nurse at.day s shift)) (leads s (fits-all (sizes_of c at.nurse) s reachable.fits).last reachable.inside allowed);
+      fits = next_fits c n d s shift known;
+      can_be = next_can_be c n d s shift reachable.can_be;
+      inside = subst (λ l. InBox (box_at after (shift_digit l)) next) (sym (next_last c n d s shift)) (leads s (fits-all (sizes_of c n) s reachable.fits).last reachable.inside allowed);
     }
 
-    reached : (b : Bool) (t : Summary × ℕ) → (if b then None else Some (next, transition_cost c at.nurse at.day s shift)) ≡ Some t → (b ≡ false → IsReachable c at.nurse after next) → IsReachable c at.nurse after t.0
+    reached : (b : Bool) (t : Summary × ℕ) → (if b then None else Some (next, transition_cost c n d s shift)) ≡ Some t → (b ≡ false → IsReachable c n after next) → IsReachable c n after t.0
     reached true t e there = absurd cc
-    reached false t e there = let same : next ≡ t.0 = cc in subst (IsReachable c at.nurse after) same (there (λ i. false))
+    reached false t e there = let same : next ≡ t.0 = cc in subst (IsReachable c n after) same (there (λ i. false))
 
-  pub leads_by : LeadsOn c at boxes after offer
-  leads_by s t reachable e = reached s reachable (forbids c.successions s.last shift) t (subst (λ x. transition_of c at.nurse at.day s x ≡ Some t) (sym is) e) (next_reachable s reachable)
+  pub leads_by : LeadsOn c n d boxes after offer
+  leads_by s t reachable e = reached s reachable (forbids c.successions s.last shift) t (subst (λ x. transition_of c n d s x ≡ Some t) (sym is) e) (next_reachable s reachable)

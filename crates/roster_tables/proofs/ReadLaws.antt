@@ -12,7 +12,7 @@ use Rattle.roster_state.specs.Transition.{next_of, transition_cost, transition_o
 use Rattle.roster_offers.specs.declared.offer.Offer.{Offer}
 use Rattle.roster_offers.specs.ByStates.{best_after}
 use Rattle.roster_offers.specs.Cheapest.{Priced, raised}
-use Rattle.roster_offers.specs.Offers.{dearer}
+use Rattle.roster_offers.specs.Offers.{dearer, scaled}
 use Rattle.roster_offers.proofs.Cheapest.{cost_or, thing_or}
 use Rattle.roster_offers.proofs.LowRows.{LowRow}
 use Rattle.roster_offers.specs.Lists.{no_row, offers_on}
@@ -25,19 +25,19 @@ use Rattle.roster_tables.specs.Tables.{ArePointers, BeginsWith, BestOnward, Lead
 abbrev following : {S : Type 0} → Bool → S → Option S
 following forbidden next = if forbidden then None else Some next
 
-module _ (later : BestOnward) (offer : Offer) (row : ℕ × List Offer) (reached : Summary) (cost : ℕ) where
+module _ (scale : ℕ) (later : BestOnward) (offer : Offer) (row : ℕ × List Offer) (reached : Summary) (cost : ℕ) where
   abbrev by : Bool → Priced (List Offer)
-  by forbidden = best_after offer (dearer offer.price (if forbidden then None else Some (reached, cost))) later
+  by forbidden = best_after offer (dearer offer.price (scaled scale (if forbidden then None else Some (reached, cost)))) later
 
   begins : (forbidden : Bool) (next : Summary) → by forbidden ≡ Some row → following forbidden reached ≡ Some next → BeginsWith later row offer.choice next
   begins true next best is = absurd cc
   begins false next best is = go (later reached) refl best
     where
-      go : (p : Priced (List Offer)) → later reached ≡ p → raised (offer.price + cost) (λ rest. offer ∷ rest) p ≡ Some row → BeginsWith later row offer.choice next
+      go : (p : Priced (List Offer)) → later reached ≡ p → raised (offer.price + scale * cost) (λ rest. offer ∷ rest) p ≡ Some row → BeginsWith later row offer.choice next
       go None found e = absurd cc
       go (Some p) found e =
           let state : reached ≡ next = cc in
-          let total : offer.price + cost + p.0 ≡ row.0 = ap (cost_or 0) e in
+          let total : offer.price + scale * cost + p.0 ≡ row.0 = ap (cost_or 0) e in
           record {
             offer = offer;
             others = p.1;
@@ -72,23 +72,23 @@ points_at c at boxes offers later first pointers right s code is reachable row b
     subst (λ k. PointsToBest (best_by c at later s) offers row (slice_index_or pointers (first + k) 0)) (sym is) (right s reachable row best low)
 
 -- the state after an allowed choice is reachable after the day
-module _ (c : Meaning) (at : SearchDay) (s next : Summary) (shift : Option Shift) where
+module _ (c : Meaning) (n d : ℕ) (s next : Summary) (shift : Option Shift) where
   abbrev cost : ℕ
-  cost = transition_cost c at.nurse at.day s shift
+  cost = transition_cost c n d s shift
 
   abbrev taken : Summary × ℕ
   taken = (next, cost)
 
   abbrev transition : Bool → Option (Summary × ℕ)
-  transition b = if b then None else Some (next_of c at.nurse at.day s shift, cost)
+  transition b = if b then None else Some (next_of c n d s shift, cost)
 
-  transition_is : (b : Bool) → Some next ≡ (if b then None else Some (next_of c at.nurse at.day s shift)) → transition b ≡ Some taken
+  transition_is : (b : Bool) → Some next ≡ (if b then None else Some (next_of c n d s shift)) → transition b ≡ Some taken
   transition_is true e = absurd cc
-  transition_is false e = let same : next ≡ next_of c at.nurse at.day s shift = cc in λ i. Some (sym same i, cost)
+  transition_is false e = let same : next ≡ next_of c n d s shift = cc in λ i. Some (sym same i, cost)
 
-  pub after_reachable : (boxes following : List StateBox) (offer : Offer) → LeadsOn c at boxes following offer → IsReachable c at.nurse boxes s → shift ≡ shift_of offer.choice
-      → Some next ≡ (if forbids c.successions s.last shift then None else Some (next_of c at.nurse at.day s shift)) → IsReachable c at.nurse following next
-  after_reachable boxes following offer leads reachable is found = leads s taken reachable (ap (λ (x : Option Shift). transition_of c at.nurse at.day s x) (sym is) ∙ transition_is (forbids c.successions s.last shift) found)
+  pub after_reachable : (boxes following : List StateBox) (offer : Offer) → LeadsOn c n d boxes following offer → IsReachable c n boxes s → shift ≡ shift_of offer.choice
+      → Some next ≡ (if forbids c.successions s.last shift then None else Some (next_of c n d s shift)) → IsReachable c n following next
+  after_reachable boxes following offer leads reachable is found = leads s taken reachable (ap (λ (x : Option Shift). transition_of c n d s x) (sym is) ∙ transition_is (forbids c.successions s.last shift) found)
 
 -- ---- what is read there
 
@@ -111,10 +111,10 @@ module _ (c : Meaning) (at : SearchDay) (later : BestOnward) (s : Summary) (offe
 
     pub read_begins : (next : Summary) → o ≡ Some next → BeginsWith later row read.choice next
     read_begins next found =
-        begins later read row (next_of c at.nurse at.day s (shift_of read.choice)) (transition_cost c at.nurse at.day s (shift_of read.choice)) (forbids c.successions s.last (shift_of read.choice)) next best (reached ∙ found)
+        begins at.scale later read row (next_of c at.nurse at.day s (shift_of read.choice)) (transition_cost c at.nurse at.day s (shift_of read.choice)) (forbids c.successions s.last (shift_of read.choice)) next best (reached ∙ found)
 
     pub read_goes_on : o ≡ None → ⊥
-    read_goes_on found = goes_on later read row (next_of c at.nurse at.day s (shift_of read.choice)) (transition_cost c at.nurse at.day s (shift_of read.choice)) (forbids c.successions s.last (shift_of read.choice)) best (reached ∙ found)
+    read_goes_on found = goes_on at.scale later read row (next_of c at.nurse at.day s (shift_of read.choice)) (transition_cost c at.nurse at.day s (shift_of read.choice)) (forbids c.successions s.last (shift_of read.choice)) best (reached ∙ found)
 
 -- ---- what is read on a day of a search
 

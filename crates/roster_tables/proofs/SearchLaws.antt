@@ -21,8 +21,8 @@ use Rattle.roster_offers.specs.declared.offer.Offer.{Offer}
 use Rattle.roster_offers.specs.ByStates.{best_after}
 use Rattle.roster_offers.specs.Cheapest.{Priced, cheaper, cheapest, raised}
 use Rattle.roster_offers.proofs.Cheapest.{thing_or}
-use Rattle.roster_offers.specs.Offers.{best_of_offers, choices_of, dearer, offer_transition}
-use Rattle.roster_offers.specs.Lists.{best_over, no_row, offers_on}
+use Rattle.roster_offers.specs.Offers.{best_of_offers_at, choices_of, dearer, offer_transition_at, scaled}
+use Rattle.roster_offers.specs.Lists.{best_over_at, no_row, offers_on}
 use Rattle.roster_lanes.specs.Lanes.{SameOutside}
 use Rattle.roster_tables.specs.declared.day.OpenDay.{OpenDay}
 use Rattle.roster_tables.specs.declared.days.SearchDays.{SearchDays}
@@ -33,23 +33,23 @@ use Rattle.roster_tables.specs.Tables.{AreLabels, ArePointers, BeginsWith, BestO
 use Rattle.roster_tables.specs.Search.{BoxesLead, PointersFrom, boxes_on, onward, search_day, extensions_on}
 use Rattle.roster_tables.proofs.CellLaws.{outside_wider}
 
-module _ (c : Meaning) (n : ℕ) (offers : ℕ → List Offer) where
+module _ (c : Meaning) (n scale : ℕ) (offers : ℕ → List Offer) where
   -- ---- the best row from a day on
 
-  pub onward-first : onward c n offers 0 (summary_of c n []) ≡ best_over c n offers
-  onward-first = ap (λ m. best_of_offers c n offers m 0 (summary_of c n [])) all
+  pub onward-first : onward c n scale offers 0 (summary_of c n []) ≡ best_over_at c n scale offers
+  onward-first = ap (λ m. best_of_offers_at c n scale offers m 0 (summary_of c n [])) all
     where
       all : day_count c - 0 ≡ day_count c
       all = omega arith
 
-  pub onward-last : onward c n offers (day_count c) ≡ best_at_end c n
-  onward-last = λ i s. best_of_offers c n offers (none i) (day_count c) s
+  pub onward-last : onward c n scale offers (day_count c) ≡ best_at_end c n scale
+  onward-last = λ i s. best_of_offers_at c n scale offers (none i) (day_count c) s
     where
       none : day_count c - day_count c ≡ 0
       none = omega arith
 
-  pub onward-day : (d : ℕ) → d < day_count c → onward c n offers d ≡ best_on c (search_day c n d) (offers d) (onward c n offers (d + 1))
-  onward-day d within = (λ i s. best_of_offers c n offers (more i) d s) ∙ (λ i s. cheapest (λ x. best_after x (offer_transition c n d s x) (best_of_offers c n offers (day_count c - (d + 1)) (next i))) (offers d))
+  pub onward-day : (d : ℕ) → d < day_count c → onward c n scale offers d ≡ best_on c (search_day n scale d) (offers d) (onward c n scale offers (d + 1))
+  onward-day d within = (λ i s. best_of_offers_at c n scale offers (more i) d s) ∙ (λ i s. cheapest (λ x. best_after x (offer_transition_at c n scale d s x) (best_of_offers_at c n scale offers (day_count c - (d + 1)) (next i))) (offers d))
     where
       more : day_count c - d ≡ suc (day_count c - (d + 1))
       more = omega (arith, within)
@@ -59,7 +59,7 @@ module _ (c : Meaning) (n : ℕ) (offers : ℕ → List Offer) where
 
   -- ---- the tables of one more day
 
-  pub labels_before : (d : ℕ) → d < day_count c → (boxes : List StateBox) (labels : List ℕ) → AreLabels c n boxes (best_on c (search_day c n d) (offers d) (onward c n offers (d + 1))) labels → AreLabels c n boxes (onward c n offers d) labels
+  pub labels_before : (d : ℕ) → d < day_count c → (boxes : List StateBox) (labels : List ℕ) → AreLabels c n boxes (best_on c (search_day n scale d) (offers d) (onward c n scale offers (d + 1))) labels → AreLabels c n boxes (onward c n scale offers d) labels
   labels_before d within boxes labels = subst (λ best. AreLabels c n boxes best labels) (sym (onward-day d within))
 
   abbrev size : ℕ
@@ -67,16 +67,16 @@ module _ (c : Meaning) (n : ℕ) (offers : ℕ → List Offer) where
 
   module _ (boxes : List (List StateBox)) where
     abbrev DayPointed : List ℕ → ℕ → ℕ → Type 0
-    DayPointed pointers first d = ArePointers c (search_day c n d) (boxes_on boxes d) (offers d) (onward c n offers (d + 1)) first pointers
+    DayPointed pointers first d = ArePointers c (search_day n scale d) (boxes_on boxes d) (offers d) (onward c n scale offers (d + 1)) first pointers
 
-    pub pointers_before : (d first : ℕ) (old new : List ℕ) → first ≡ d * size → DayPointed new first d → SameOutside first (first + size) old new → PointersFrom c n offers boxes (d + 1) old → PointersFrom c n offers boxes d new
+    pub pointers_before : (d first : ℕ) (old new : List ℕ) → first ≡ d * size → DayPointed new first d → SameOutside first (first + size) old new → PointersFrom c n scale offers boxes (d + 1) old → PointersFrom c n scale offers boxes d new
     pointers_before d first old new is here same later day low within = go (cases_lt d day)
       where
         go : (d < day) ⊎ (day ≤ d) → DayPointed new (day * size) day
         go (inl after) = λ s reachable.
             let code = code_of (sizes_of c n) s in
             let place : first + size ≤ day * size + code = omega (arith, is, mul-le (d + 1) size day size (omega (arith, after)) (omega arith)) in
-            subst (PointsWhereBest (best_by c (search_day c n day) (onward c n offers (day + 1)) s) (offers day) (best_on c (search_day c n day) (offers day) (onward c n offers (day + 1)) s))
+            subst (PointsWhereBest (best_by c (search_day n scale day) (onward c n scale offers (day + 1)) s) (offers day) (best_on c (search_day n scale day) (offers day) (onward c n scale offers (day + 1)) s))
             (sym (same.after (day * size + code) place)) (later day (omega (arith, after)) within s reachable)
         go (inr this) =
             let same_day : d ≡ day = omega (arith, this, low) in
@@ -84,11 +84,11 @@ module _ (c : Meaning) (n : ℕ) (offers : ℕ → List Offer) where
 
 -- ---- the states that are reachable on a day: there is one
 
-some_after : (later : BestOnward) (offer : Offer) (o : Option (Summary × ℕ)) → IsSome (best_after offer (dearer offer.price o) later) → (t : Summary × ℕ) × (o ≡ Some t) × IsSome (later t.0)
-some_after later offer None some = elim (true≢false (sym some)) [ ]
-some_after later offer (Some t) some = (t, refl, go (later t.0) some)
+some_after : (scale : ℕ) (later : BestOnward) (offer : Offer) (o : Option (Summary × ℕ)) → IsSome (best_after offer (dearer offer.price (scaled scale o)) later) → (t : Summary × ℕ) × (o ≡ Some t) × IsSome (later t.0)
+some_after scale later offer None some = elim (true≢false (sym some)) [ ]
+some_after scale later offer (Some t) some = (t, refl, go (later t.0) some)
   where
-    go : (p : Priced (List Offer)) → IsSome (raised (offer.price + t.1) (λ rest. offer ∷ rest) p) → IsSome p
+    go : (p : Priced (List Offer)) → IsSome (raised (offer.price + scale * t.1) (λ rest. offer ∷ rest) p) → IsSome p
     go None none = elim (true≢false (sym none)) [ ]
     go (Some p) is = refl
 
@@ -104,24 +104,24 @@ some_cheapest f P (y ∷ ys) all some = elim (some_of_both (f y) (cheapest f ys)
 ]
 
 -- a state that is reachable on a day, from which a row goes on
-pub record GoesOn (c : Meaning) (n : ℕ) (offers : ℕ → List Offer) (boxes : List (List StateBox)) (day : ℕ) : Type 0 where
+pub record GoesOn (c : Meaning) (n scale : ℕ) (offers : ℕ → List Offer) (boxes : List (List StateBox)) (day : ℕ) : Type 0 where
   pub state : Summary
   pub reachable : IsReachable c n (boxes_on boxes day) state
-  pub some : IsSome (onward c n offers day state)
+  pub some : IsSome (onward c n scale offers day state)
 
-module _ (c : Meaning) (n : ℕ) (offers : ℕ → List Offer) (boxes : List (List StateBox)) (lead : BoxesLead c n offers boxes) where
-  next_on : (day : ℕ) → day < day_count c → GoesOn c n offers boxes day → GoesOn c n offers boxes (day + 1)
+module _ (c : Meaning) (n scale : ℕ) (offers : ℕ → List Offer) (boxes : List (List StateBox)) (lead : BoxesLead c n offers boxes) where
+  next_on : (day : ℕ) → day < day_count c → GoesOn c n scale offers boxes day → GoesOn c n scale offers boxes (day + 1)
   next_on day within at =
       let s = at.state in
-      let later = onward c n offers (day + 1) in
-      let some : IsSome (best_on c (search_day c n day) (offers day) later s) = subst (λ (f : BestOnward). IsSome (f s)) (onward-day c n offers day within) at.some in
-      let found = some_cheapest (best_by c (search_day c n day) later s) (LeadsOn c (search_day c n day) (boxes_on boxes day) (boxes_on boxes (day + 1))) (offers day) (lead day within) some in
-      let transition = some_after later found.0 (transition_of c n day s (shift_of found.0.choice)) found.2 in
+      let later = onward c n scale offers (day + 1) in
+      let some : IsSome (best_on c (search_day n scale day) (offers day) later s) = subst (λ (f : BestOnward). IsSome (f s)) (onward-day c n scale offers day within) at.some in
+      let found = some_cheapest (best_by c (search_day n scale day) later s) (LeadsOn c n day (boxes_on boxes day) (boxes_on boxes (day + 1))) (offers day) (lead day within) some in
+      let transition = some_after scale later found.0 (transition_of c n day s (shift_of found.0.choice)) found.2 in
       record { state = transition.0.0; reachable = found.1 s transition.0 at.reachable transition.1; some = transition.2 }
 
-  pub goes_on : IsReachable c n (boxes_on boxes 0) (summary_of c n []) → IsSome (best_over c n offers) → (day : ℕ) → day ≤ day_count c → GoesOn c n offers boxes day
-  goes_on start some zero within = record { state = summary_of c n []; reachable = start; some = subst (λ (p : Priced (List Offer)). IsSome p) (sym (onward-first c n offers)) some }
-  goes_on start some (suc day) within = subst (GoesOn c n offers boxes) (omega arith) (next_on day (omega (arith, within)) (goes_on start some day (omega (arith, within))))
+  pub goes_on : IsReachable c n (boxes_on boxes 0) (summary_of c n []) → IsSome (best_over_at c n scale offers) → (day : ℕ) → day ≤ day_count c → GoesOn c n scale offers boxes day
+  goes_on start some zero within = record { state = summary_of c n []; reachable = start; some = subst (λ (p : Priced (List Offer)). IsSome p) (sym (onward-first c n scale offers)) some }
+  goes_on start some (suc day) within = subst (GoesOn c n scale offers boxes) (omega arith) (next_on day (omega (arith, within)) (goes_on start some day (omega (arith, within))))
 
 -- ---- the boxes of one more day
 
@@ -136,38 +136,38 @@ module _ (c : Meaning) (n : ℕ) (offers : ℕ → List Offer) (boxes : List (Li
   day_kept d up_to = let ne : d ≢ day + 1 = omega arith in get_or-set_other boxes (day + 1) d after [] ne
 
   abbrev LeadOn : List (List StateBox) → ℕ → Type 0
-  LeadOn table d = All (LeadsOn c (search_day c n d) (boxes_on table d) (boxes_on table (d + 1))) (offers d)
+  LeadOn table d = All (LeadsOn c n d (boxes_on table d) (boxes_on table (d + 1))) (offers d)
 
-  pub lead_more : All (LeadsOn c (search_day c n day) (boxes_on boxes day) after) (offers day) → ((d : ℕ) → d < day → LeadOn boxes d) → (d : ℕ) → d < day + 1 → LeadOn with_day d
+  pub lead_more : All (LeadsOn c n day (boxes_on boxes day) after) (offers day) → ((d : ℕ) → d < day → LeadOn boxes d) → (d : ℕ) → d < day + 1 → LeadOn with_day d
   lead_more here before d below = go (cases_lt d day)
     where
       go : (d < day) ⊎ (day ≤ d) → LeadOn with_day d
-      go (inl low) = transport (λ i. All (LeadsOn c (search_day c n d) (sym (day_kept d (omega (arith, low))) i) (sym (day_kept (d + 1) (omega (arith, low))) i)) (offers d)) (before d low)
+      go (inl low) = transport (λ i. All (LeadsOn c n d (sym (day_kept d (omega (arith, low))) i) (sym (day_kept (d + 1) (omega (arith, low))) i)) (offers d)) (before d low)
       go (inr high) =
           let is : day ≡ d = omega (arith, high, below) in
-          subst (LeadOn with_day) is (transport (λ i. All (LeadsOn c (search_day c n day) (sym (day_kept day (omega arith)) i) (sym day_set i)) (offers day)) here)
+          subst (LeadOn with_day) is (transport (λ i. All (LeadsOn c n day (sym (day_kept day (omega arith)) i) (sym day_set i)) (offers day)) here)
 
 -- ---- the row, read forward
 
 -- the first choices of the row are read, and the others are those of the best row from this state on
-pub record IsReadTo (c : Meaning) (n : ℕ) (offers : ℕ → List Offer) (day : ℕ) (s : Summary) (row : Row) (best : List Offer) : Type 0 where
+pub record IsReadTo (c : Meaning) (n scale : ℕ) (offers : ℕ → List Offer) (day : ℕ) (s : Summary) (row : Row) (best : List Offer) : Type 0 where
   pub cost : ℕ
   pub rest : List Offer
-  pub is : onward c n offers day s ≡ Some (cost, rest)
+  pub is : onward c n scale offers day s ≡ Some (cost, rest)
   pub low : cost < no_row
   pub split : choices_of best ≡ take day row ++ choices_of rest
 
-module _ (c : Meaning) (n : ℕ) (offers : ℕ → List Offer) where
-  pub read_first : (cost : ℕ) (best : List Offer) (s : Summary) (row : Row) → s ≡ summary_of c n [] → best_over c n offers ≡ Some (cost, best) → cost < no_row → IsReadTo c n offers 0 s row best
+module _ (c : Meaning) (n scale : ℕ) (offers : ℕ → List Offer) where
+  pub read_first : (cost : ℕ) (best : List Offer) (s : Summary) (row : Row) → s ≡ summary_of c n [] → best_over_at c n scale offers ≡ Some (cost, best) → cost < no_row → IsReadTo c n scale offers 0 s row best
   read_first cost best s row start is low = record {
     cost = cost;
     rest = best;
-    is = ap (onward c n offers 0) start ∙ onward-first c n offers ∙ is;
+    is = ap (onward c n scale offers 0) start ∙ onward-first c n scale offers ∙ is;
     low = low;
     split = refl;
   }
 
-  pub read_on : (day : ℕ) (s next : Summary) (row : Row) (choice : Choice) (best : List Offer) → day < length row → (so_far : IsReadTo c n offers day s row best) → BeginsWith (onward c n offers (day + 1)) (so_far.cost, so_far.rest) choice next → IsReadTo c n offers (day + 1) next (slice_set row day choice) best
+  pub read_on : (day : ℕ) (s next : Summary) (row : Row) (choice : Choice) (best : List Offer) → day < length row → (so_far : IsReadTo c n scale offers day s row best) → BeginsWith (onward c n scale offers (day + 1)) (so_far.cost, so_far.rest) choice next → IsReadTo c n scale offers (day + 1) next (slice_set row day choice) best
   read_on day s next row choice best within so_far begins = record {
     cost = begins.cost;
     rest = begins.others;
@@ -182,12 +182,12 @@ module _ (c : Meaning) (n : ℕ) (offers : ℕ → List Offer) where
   }
 
   -- the day has a row from here on, and it is low
-  module _ (day : ℕ) (within : day < day_count c) (s : Summary) (row : Row) (best : List Offer) (read : IsReadTo c n offers day s row best) where
+  module _ (day : ℕ) (within : day < day_count c) (s : Summary) (row : Row) (best : List Offer) (read : IsReadTo c n scale offers day s row best) where
     abbrev here : Priced (List Offer)
-    here = best_on c (search_day c n day) (offers day) (onward c n offers (day + 1)) s
+    here = best_on c (search_day n scale day) (offers day) (onward c n scale offers (day + 1)) s
 
     here_is : here ≡ Some (read.cost, read.rest)
-    here_is = sym (ap (λ (f : BestOnward). f s) (onward-day c n offers day within)) ∙ read.is
+    here_is = sym (ap (λ (f : BestOnward). f s) (onward-day c n scale offers day within)) ∙ read.is
 
     pub reads_some : IsSome here
     reads_some = ap is_some here_is
@@ -195,9 +195,9 @@ module _ (c : Meaning) (n : ℕ) (offers : ℕ → List Offer) where
     pub reads_low : IfSome here (λ p. p.0 < no_row)
     reads_low = subst (λ (o : Priced (List Offer)). IfSome o (λ p. p.0 < no_row)) (sym here_is) read.low
 
-  pub read_last : (s : Summary) (row : Row) (best : List Offer) → IsReadTo c n offers (day_count c) s row best → take (day_count c) row ≡ choices_of best
+  pub read_last : (s : Summary) (row : Row) (best : List Offer) → IsReadTo c n scale offers (day_count c) s row best → take (day_count c) row ≡ choices_of best
   read_last s row best read =
-      let nothing_left : [] ≡ read.rest = ap (thing_or []) (sym (ap (λ (f : BestOnward). f s) (onward-last c n offers)) ∙ read.is) in
+      let nothing_left : [] ≡ read.rest = ap (thing_or []) (sym (ap (λ (f : BestOnward). f s) (onward-last c n scale offers)) ∙ read.is) in
       sym (read.split ∙ ap (λ rest. take (day_count c) row ++ choices_of rest) (sym nothing_left) ∙ append-nil (take (day_count c) row))
 
 -- ---- how often a label is extended at most
@@ -211,17 +211,17 @@ pub boxes_read : (boxes : List (List StateBox)) (day : ℕ) (d : List StateBox) 
 boxes_read boxes day d inside = get_or_default boxes day d [] inside
 
 -- the first label is the cost of the best row
-pub first_label : (c : Meaning) (n : ℕ) (offers : ℕ → List Offer) (s : Summary) (label cost : ℕ) (best : List Offer) → s ≡ summary_of c n [] → label ≡ label_of (onward c n offers 0 s) → best_over c n offers ≡ Some (cost, best) → cost < no_row → label ≡ cost
-first_label c n offers s label cost best start is found low =
-    is ∙ ap label_of (ap (onward c n offers 0) start ∙ onward-first c n offers ∙ found) ∙ omega (arith, low)
+pub first_label : (c : Meaning) (n scale : ℕ) (offers : ℕ → List Offer) (s : Summary) (label cost : ℕ) (best : List Offer) → s ≡ summary_of c n [] → label ≡ label_of (onward c n scale offers 0 s) → best_over_at c n scale offers ≡ Some (cost, best) → cost < no_row → label ≡ cost
+first_label c n scale offers s label cost best start is found low =
+    is ∙ ap label_of (ap (onward c n scale offers 0) start ∙ onward-first c n scale offers ∙ found) ∙ omega (arith, low)
 
 -- ---- a day that is still to be labelled is one of the search's
 
 module _ {days : SearchDays} {d : ℕ} {later : List ℕ} {day : OpenDay} (is : IsDayOf days d later day) (within : d < day_count days.search.case.now) where
   pub opened_labels : (labels pointers : List ℕ) → AreTables day (IsReachableOn day) labels pointers → LabelsOn days d labels
   opened_labels labels pointers tables =
-      labels_before days.search.case.now days.search.nurse (offers_on days.search.offers.now) d within (boxes_on days.boxes.now d) labels
-      (transport (λ i. AreLabels (is.case_is i) (is.nurse_is i) (is.boxes i) (best_on (is.case_is i) (search_day (is.case_is i) (is.nurse_is i) (is.day i)) (is.offers i) (onward (is.case_is i) (is.nurse_is i) (offers_on (is.table_is i)) (is.day i + 1))) labels) tables.labels_are)
+      labels_before days.search.case.now days.search.nurse days.search.scale (offers_on days.search.offers.now) d within (boxes_on days.boxes.now d) labels
+      (transport (λ i. AreLabels (is.case_is i) (is.nurse_is i) (is.boxes i) (best_on (is.case_is i) (search_day (is.nurse_is i) (is.scale_is i) (is.day i)) (is.offers i) (onward (is.case_is i) (is.nurse_is i) (is.scale_is i) (offers_on (is.table_is i)) (is.day i + 1))) labels) tables.labels_are)
 
   pub opened_size : product day.days.ranges ≡ product days.ranges
   opened_size = λ i. product (is.ranges_are i)
@@ -229,8 +229,8 @@ module _ {days : SearchDays} {d : ℕ} {later : List ℕ} {day : OpenDay} (is : 
   pub opened_pointers : (labels_old labels pointers_old pointers : List ℕ) → AreTables day (IsReachableOn day) labels pointers → KeepTables day 0 (product day.days.ranges) labels_old labels pointers_old pointers → PointersOn days (d + 1) pointers_old → PointersOn days d pointers
   opened_pointers labels_old labels pointers_old pointers tables outside before =
       let size : product day.days.ranges ≡ product (sizes_of days.search.case.now days.search.nurse) = opened_size ∙ ap product days.own_ranges in
-      pointers_before days.search.case.now days.search.nurse (offers_on days.search.offers.now) days.boxes.now d day.first pointers_old pointers (is.first ∙ ap (λ z. d * product z) days.own_ranges)
-      (transport (λ i. ArePointers (is.case_is i) (search_day (is.case_is i) (is.nurse_is i) (is.day i)) (is.boxes i) (is.offers i) (onward (is.case_is i) (is.nurse_is i) (offers_on (is.table_is i)) (is.day i + 1)) day.first pointers) tables.pointers_are)
+      pointers_before days.search.case.now days.search.nurse days.search.scale (offers_on days.search.offers.now) days.boxes.now d day.first pointers_old pointers (is.first ∙ ap (λ z. d * product z) days.own_ranges)
+      (transport (λ i. ArePointers (is.case_is i) (search_day (is.nurse_is i) (is.scale_is i) (is.day i)) (is.boxes i) (is.offers i) (onward (is.case_is i) (is.nurse_is i) (is.scale_is i) (offers_on (is.table_is i)) (is.day i + 1)) day.first pointers) tables.pointers_are)
       (outside_wider _ _ _ _ pointers_old pointers (omega arith) (omega (arith, size)) outside.of_pointers.others) before
 
   pub opened_extensions : day_extensions day ≡ extensions_on days.search.case.now days.search.nurse (offers_on days.search.offers.now) days.boxes.now d

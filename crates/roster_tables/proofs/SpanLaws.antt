@@ -20,13 +20,14 @@ use Rattle.roster_lanes.specs.Lanes.{SameOutside, pointer_by, raised}
 use Rattle.roster_offers.specs.declared.offer.Offer.{Offer}
 use Rattle.roster_offers.specs.Lists.{no_row}
 use Rattle.roster_offers.proofs.ListLaws.{no_offer}
+use Rattle.roster_offers.proofs.ScaleLaws.{day_low}
 use Rattle.roster_tables.specs.declared.day.OpenDay.{OpenDay}
 use Rattle.roster_tables.specs.Days.{boxes_next}
 use Rattle.roster_tables.specs.Halves.{IsWritten}
 use Rattle.roster_tables.specs.OpenDays.{AreLabelsBy, AreRefusedBy, AreTables, IsSpanOf, KeepOutside, KeepsRest, LeastFrom, PlacesKept, CellsBy, IsReachableBy, IsReachableOn, SpanCells, best_with, most_places, onward_of, places_of, shape_of, the_day}
 use Rattle.roster_tables.specs.Strips.{AreStripsIn, BetweenStripsKept, StripCells}
 use Rattle.roster_tables.specs.declared.strips.StripShape.{StripShape}
-use Rattle.roster_tables.specs.Tables.{AreOfLeast, IsOfferOf, LeadsOn, IsReachable, label_of}
+use Rattle.roster_tables.specs.Tables.{AreOfLeast, IsOfferAt, LeadsOn, IsReachable, label_of}
 use Rattle.roster_tables.proofs.CountLaws.{Goes}
 use Rattle.roster_tables.proofs.StripLaws.{place_at}
 use Rattle.roster_tables.proofs.GroupLaws.{as_place, like_code, like_place, like_weekends}
@@ -72,8 +73,8 @@ module _ (day : OpenDay) (span : Span) (place : ℕ) (inside : place < length da
   transition_on s x = transition_of day.days.search.case.now day.days.search.nurse day.day s x
 
   -- it is an offer of the case, at a price within range
-  pub of_case : IsOfferOf day.days.search.case.now offer
-  of_case = All-get_or (IsOfferOf day.days.search.case.now) day.offers.now place no_offer inside day.ready.of_case
+  pub of_case : IsOfferAt day.days.search.case.now day.days.search.scale offer
+  of_case = All-get_or (IsOfferAt day.days.search.case.now day.days.search.scale) day.offers.now place no_offer inside day.ready.of_case
 
   by_choice : (i b : ℕ) (o : Option (Summary × ℕ)) → o ≡ transition_on (state i b) shift → transition_on (state i b) (shift_of offer.choice) ≡ o
   by_choice i b o is = sym (is ∙ ap (transition_on (state i b)) chosen)
@@ -88,7 +89,7 @@ module _ (day : OpenDay) (span : Span) (place : ℕ) (inside : place < length da
 
     reached_reachable : (i b : ℕ) → i < span.strips → b < width → IsReachable day.days.search.case.now day.days.search.nurse (boxes_next day.days day.day) (reached i b).0
     reached_reachable i b in_strips in_width =
-        All-get_or (LeadsOn day.days.search.case.now (the_day day) day.boxes.now (boxes_next day.days day.day)) day.offers.now place no_offer inside day.ready.leads
+        All-get_or (LeadsOn day.days.search.case.now day.days.search.nurse day.day day.boxes.now (boxes_next day.days day.day)) day.offers.now place no_offer inside day.ready.leads
         (state i b) (reached i b) (good.reachable i b in_strips in_width) (by_choice i b (Some (reached i b)) (transitions i b in_strips in_width))
 
     code_is : (i b : ℕ) → code_of day.days.ranges (reached i b).0 ≡ first + (i * stride + b)
@@ -103,17 +104,17 @@ module _ (day : OpenDay) (span : Span) (place : ℕ) (inside : place < length da
         let fits = subst (λ z. code_of z (reached (span.strips - 1) (width - 1)).0 < product z) (sym day.days.own_ranges) (numbered-within _ _ (reached_reachable (span.strips - 1) (width - 1) last_strip last_place).fits) in
         omega (arith, fits, code_is (span.strips - 1) (width - 1), some, day.ready.capacity)
 
-    pub labels_by : AreLabelsBy day span place first (offer.price + transition.1)
+    pub labels_by : AreLabelsBy day span place first (offer.price + day.days.search.scale * transition.1)
     labels_by = record {
       offer = offer;
       read = get_or_default day.offers.now place offer no_offer inside;
       within = span_within;
-      few = omega (arith, of_case.price, cost);
+      few = omega (arith, day_low day.days.search.scale offer.price transition.1 day.days.search.in_scale.few of_case.price cost);
       low = λ i b in_strips in_width.
           subst (λ k. slice_index_or day.later.now k 0 ≤ no_row) (code_is i b)
           (transition_low day.days.search.case.now (the_day day) day.days.ranges day.days.own_ranges (boxes_next day.days day.day) (onward_of day) day.later.now day.ready.later (reached i b).0 (reached_reachable i b in_strips in_width));
       labels = λ i b in_strips in_width.
-          ap (λ k. min (offer.price + transition.1 + slice_index_or day.later.now k 0) no_row) (sym (code_is i b))
+          ap (λ k. min (offer.price + day.days.search.scale * transition.1 + slice_index_or day.later.now k 0) no_row) (sym (code_is i b))
           ∙ label_at-is day.days.search.case.now (the_day day) day.days.ranges day.days.own_ranges (boxes_next day.days day.day) (onward_of day) day.later.now day.ready.later
           (state i b) offer (reached i b) (by_choice i b (Some (reached i b)) (transitions i b in_strips in_width)) (reached_reachable i b in_strips in_width);
     }

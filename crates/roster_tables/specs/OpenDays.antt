@@ -30,6 +30,7 @@ use Rattle.roster_offers.specs.Lists.{no_row, offers_on}
 pub record IsDayOf (days : SearchDays) (d : ℕ) (labels : List ℕ) (it : OpenDay) : Type 0 where
   pub case_is : it.days.search.case.now ≡ days.search.case.now
   pub nurse_is : it.days.search.nurse ≡ days.search.nurse
+  pub scale_is : it.days.search.scale ≡ days.search.scale
   pub ranges_are : it.days.ranges ≡ days.ranges
   pub table_is : it.days.search.offers.now ≡ days.search.offers.now
   pub day : it.day ≡ d

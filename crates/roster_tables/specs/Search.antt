@@ -6,21 +6,21 @@ use Rattle.roster_rules.specs.Prefix.{Summary, summary_of}
 use Rattle.roster_state.specs.declared.state_box.StateBox.{StateBox}
 use Rattle.roster_state.specs.Codes.{product, sizes_of}
 use Rattle.roster_offers.specs.declared.offer.Offer.{Offer}
-use Rattle.roster_offers.specs.Offers.{best_of_offers}
+use Rattle.roster_offers.specs.Offers.{best_of_offers_at}
 use Rattle.roster_tables.specs.Counts.{states_on}
 use Rattle.roster_tables.specs.Tables.{ArePointers, BestOnward, LeadsOn, SearchDay, IsReachable}
-pub use Rattle.roster_offers.specs.Lists.{AreDayOffers, AreOffers, IsFound, best_over, offers_on}
+pub use Rattle.roster_offers.specs.Lists.{AreDayOffersAt, AreOffersAt, IsFound, best_over_at, offers_on}
 pub use Rattle.roster_offers.specs.Workspaces.{HasTables, TableCapacity}
 
 -- ---- the days of a search
 
 -- a day of the search for a nurse
-abbrev pub search_day : Meaning → ℕ → ℕ → SearchDay
-search_day c n day = record { nurse = n; day = day }
+abbrev pub search_day : (n scale day : ℕ) → SearchDay
+search_day n scale day = record { nurse = n; scale = scale; day = day }
 
 -- the best row from a day and a state on
-abbrev pub onward : Meaning → ℕ → (ℕ → List Offer) → ℕ → BestOnward
-onward c n offers day s = best_of_offers c n offers (day_count c - day) day s
+abbrev pub onward : Meaning → (n scale : ℕ) → (ℕ → List Offer) → ℕ → BestOnward
+onward c n scale offers day s = best_of_offers_at c n scale offers (day_count c - day) day s
 
 -- the boxes of a day
 abbrev pub boxes_on : List (List StateBox) → ℕ → List StateBox
@@ -30,7 +30,7 @@ boxes_on boxes day = slice_index_or boxes day []
 abbrev pub BoxesLead : Meaning → ℕ → (ℕ → List Offer) → List (List StateBox) → Type 0
 BoxesLead c n offers boxes =
     (day : ℕ) → day < day_count c
-    → All (LeadsOn c (search_day c n day) (boxes_on boxes day) (boxes_on boxes (day + 1))) (offers day)
+    → All (LeadsOn c n day (boxes_on boxes day) (boxes_on boxes (day + 1))) (offers day)
 
 -- the extensions of a search on a day: one of each reachable state by each of the day's offers
 abbrev pub extensions_on : Meaning → ℕ → (ℕ → List Offer) → List (List StateBox) → ℕ → ℕ
@@ -55,7 +55,8 @@ pub record SomeReachable (c : Meaning) (n : ℕ) (boxes : List StateBox) : Type 
   pub reachable : IsReachable c n boxes state
 
 -- the pointers of each day from one on are right: indices of these offers. The days follow one another.
-abbrev pub PointersFrom : Meaning → ℕ → (ℕ → List Offer) → List (List StateBox) → ℕ → List ℕ → Type 0
-PointersFrom c n offers boxes first pointers =
-    (day : ℕ) → first ≤ day → day < day_count c → ArePointers c (search_day c n day) (boxes_on boxes day)
-    (offers day) (onward c n offers (day + 1)) (day * product (sizes_of c n)) pointers
+abbrev pub PointersFrom : Meaning → (n scale : ℕ) → (ℕ → List Offer) → List (List StateBox) → ℕ → List ℕ
+    → Type 0
+PointersFrom c n scale offers boxes first pointers =
+    (day : ℕ) → first ≤ day → day < day_count c → ArePointers c (search_day n scale day) (boxes_on boxes day)
+    (offers day) (onward c n scale offers (day + 1)) (day * product (sizes_of c n)) pointers

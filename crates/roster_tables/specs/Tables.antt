@@ -1,5 +1,6 @@
 -- The tables of a day: at the code of each state its label, the cost of the best row from there on, and its
--- pointer, the index of the offer with which that row begins (our own).
+-- pointer, the index of the offer with which that row begins. Costs are in the parts of a point of the
+-- search's scale (our own).
 use Rattle.std.specs.Prelude.{◌≡◌, ◌+◌, ◌<◌, ◌≤◌, ℕ, true, List, [], ◌∷◌, ◌++◌, length, min, Some, None, slice_index_or}
 use Rattle.roster_instance.specs.declared.choice.Choice.{Choice}
 use Rattle.roster_instance.specs.Choices.{shift_of}
@@ -9,12 +10,12 @@ use Rattle.roster_state.specs.declared.state_box.StateBox.{StateBox}
 use Rattle.roster_state.specs.Boxes.{InBox, box_at}
 use Rattle.roster_state.specs.Codes.{Sizes, code_of, fits_sizes, shift_digit, sizes_of}
 use Rattle.roster_state.specs.Reachable.{can_be}
-use Rattle.roster_state.specs.Transition.{end_cost_of, transition_of}
+use Rattle.roster_state.specs.Transition.{transition_of}
 use Rattle.roster_offers.specs.declared.offer.Offer.{Offer}
 use Rattle.roster_offers.specs.ByStates.{best_after}
 use Rattle.roster_offers.specs.Cheapest.{Priced, cheapest}
-use Rattle.roster_offers.specs.Offers.{offer_transition}
-pub use Rattle.roster_offers.specs.Lists.{IsOfferOf, most_price, no_row}
+use Rattle.roster_offers.specs.Offers.{end_cost_at, offer_transition_at}
+pub use Rattle.roster_offers.specs.Lists.{IsOfferAt, most_price_at, no_row}
 
 -- the label that a best row gives
 abbrev pub label_of : {X : Type 0} → Priced X → ℕ
@@ -27,22 +28,23 @@ label_of (Some best) = min best.0 no_row
 abbrev pub BestOnward : Type 0
 BestOnward = Summary → Priced (List Offer)
 
--- the nurse and the day
+-- the nurse, the scale and the day
 pub record SearchDay : Type 0 where
   pub nurse : ℕ
+  pub scale : ℕ
   pub day : ℕ
 
 -- the best row from a state on that begins with an offer, given the best rows from the next day on
 abbrev pub best_by : Meaning → SearchDay → BestOnward → Summary → Offer → Priced (List Offer)
-best_by c at later s offer = best_after offer (offer_transition c at.nurse at.day s offer) later
+best_by c at later s offer = best_after offer (offer_transition_at c at.nurse at.scale at.day s offer) later
 
 -- the best row from a state on, over all offers of the day
 abbrev pub best_on : Meaning → SearchDay → List Offer → BestOnward → BestOnward
 best_on c at offers later s = cheapest (best_by c at later s) offers
 
 -- after the last day
-abbrev pub best_at_end : Meaning → ℕ → BestOnward
-best_at_end c n s = Some (end_cost_of c n s, [])
+abbrev pub best_at_end : Meaning → (n scale : ℕ) → BestOnward
+best_at_end c n scale s = Some (end_cost_at c n scale s, [])
 
 -- ---- the tables
 
@@ -55,10 +57,10 @@ pub record IsReachable (c : Meaning) (n : ℕ) (boxes : List StateBox) (s : Summ
 
 -- from a state that is reachable on the day an offer leads, if it is allowed, to one that is reachable after
 -- it
-abbrev pub LeadsOn : Meaning → SearchDay → (boxes after : List StateBox) → Offer → Type 0
-LeadsOn c at boxes after offer =
-    (s : Summary) (t : Summary × ℕ) → IsReachable c at.nurse boxes s
-    → transition_of c at.nurse at.day s (shift_of offer.choice) ≡ Some t → IsReachable c at.nurse after t.0
+abbrev pub LeadsOn : Meaning → (n d : ℕ) → (boxes after : List StateBox) → Offer → Type 0
+LeadsOn c n d boxes after offer =
+    (s : Summary) (t : Summary × ℕ) → IsReachable c n boxes s
+    → transition_of c n d s (shift_of offer.choice) ≡ Some t → IsReachable c n after t.0
 
 -- at the code of each of some states a table holds what is right for it
 abbrev pub CellsOf : (Summary → Type 0) → Sizes → (Summary → ℕ → Type 0) → (ℕ → ℕ) → List ℕ → Type 0

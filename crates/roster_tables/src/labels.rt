@@ -22,7 +22,8 @@ use roster_state::{BOXES, Block, Meter, NurseDays, Span, StateBox, WorkedDay, en
 /// The label of a state from which no row goes on. Each row costs less.
 pub const NO_ROW: u32 = 1_073_741_824;
 
-/// The labels of the reachable states after the last day: what is missing in the end.
+/// The labels of the reachable states after the last day: what is missing in the end, in the parts of a point
+/// of the search's scale, as all labels.
 pub fn label_end(days: &SearchDays<'_>, boxes: &[StateBox; BOXES], labels: &mut [u32])
     requires capacity { product days.now.ranges ≤ length labels.old }
     ensures labels { EndLabels
@@ -80,10 +81,11 @@ fn label_block_end(days: &SearchDays<'_>, block: Block, labels: &mut [u32])
         labels.old labels.new }
 {
     let (case, nurse) = (days.search.case, days.search.nurse);
+    let scale = days.search.scale;
     let ranges = &days.ranges;
     let code = block.first(ranges) as usize;
     for place in 0..block.places(ranges) as u16 {
-        labels[code + place as usize] = end_cost(case, nurse, block.state(place));
+        labels[code + place as usize] = scale * end_cost(case, nurse, block.state(place));
     }
 }
 
@@ -421,7 +423,7 @@ fn labels_by(
         return None;
     };
     let first = transition.0.code(&day.days.ranges) as usize;
-    Some((first, offer.price + transition.1))
+    Some((first, offer.price + day.days.search.scale * transition.1))
 }
 
 /// Sets the labels of a span to those by an offer, and its numbers to the offer's index, if the offer is

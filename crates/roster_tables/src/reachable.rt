@@ -3,7 +3,7 @@
 ghost use Rattle.std.specs.Prelude.{◌<◌, All};
 ghost use Rattle.roster_instance.specs.Meaning.{day_count};
 ghost use Rattle.roster_offers.specs.Lists.{offers_on};
-ghost use Rattle.roster_tables.specs.Search.{AreReachable, search_day};
+ghost use Rattle.roster_tables.specs.Search.{AreReachable};
 ghost use Rattle.roster_tables.specs.Tables.{LeadsOn};
 
 use roster_offers::{MOST_DAYS, SearchInput};
@@ -44,8 +44,7 @@ pub fn find_boxes(search: &SearchInput<'_>, boxes: &mut DayBoxes)
 /// The boxes after a day, into which its offers lead from those before it.
 fn boxes_after(search: &SearchInput<'_>, day: u16, boxes: &[StateBox; BOXES]) -> [StateBox; BOXES]
     requires day { day < day_count search.now.case.now }
-    ensures { All (LeadsOn search.now.case.now
-        (search_day search.now.case.now search.now.nurse day) boxes.now result)
+    ensures { All (LeadsOn search.now.case.now search.now.nurse day boxes.now result)
         (offers_on search.now.offers.now day) }
 {
     let offers = search.offers[day as usize].as_slice();

@@ -6,7 +6,7 @@ ghost use Rattle.roster_instance.specs.Meaning.{day_count};
 ghost use Rattle.roster_laws.specs.Greatest.{extension_count};
 ghost use Rattle.roster_state.specs.Codes.{product};
 ghost use Rattle.roster_offers.specs.Offers.{choices_of};
-ghost use Rattle.roster_offers.specs.Lists.{IsFound, best_over, no_row, offers_on};
+ghost use Rattle.roster_offers.specs.Lists.{IsFound, best_over_at, no_row, offers_on};
 ghost use Rattle.roster_offers.specs.declared.offer.Offer.{Offer};
 ghost use Rattle.roster_tables.specs.Days.{LabelsOn, PointersOn, all_pointers, best_of_days, extensions_below};
 ghost use Rattle.roster_tables.specs.OpenDays.{IsDayOf, KeepLengths};
@@ -25,9 +25,10 @@ use roster_state::{Meter, Ranges, start};
 
 /// Finds the best row over a table of offers, wherever these come from. `row` then begins with its choices,
 /// one for each day, and the result is its cost: its prices, and what the nurse's own rules cost along it
-/// besides what the start owes. It allocates nothing. The boxes hold the reachable states of each day. The
-/// meter counts each of these that a row can lead to, once for each of the day's offers: at least one for
-/// each day, and no more than one for each of the nurse's states, each day and each choice.
+/// besides what the start owes, in the parts of a point of the search's scale. It allocates nothing. The
+/// boxes hold the reachable states of each day. The meter counts each of these that a row can lead to, once
+/// for each of the day's offers: at least one for each day, and no more than one for each of the nurse's
+/// states, each day and each choice.
 pub fn search_states(
     search: &SearchInput<'_>,
     boxes: &DayBoxes,
@@ -35,7 +36,7 @@ pub fn search_states(
     row: &mut [Choice],
     meter: &mut Meter,
 ) -> u32
-    requires some { IsSome (best_over search.now.case.now search.now.nurse
+    requires some { IsSome (best_over_at search.now.case.now search.now.nurse search.now.scale
         (offers_on search.now.offers.now)) }
     requires tables { HasTables search.now.case.now search.now.nurse tables.old }
     requires row_capacity { day_count search.now.case.now ≤ length row.old }
@@ -45,7 +46,7 @@ pub fn search_states(
         (offers_on search.now.offers.now) boxes.now.days ≤ greatest_u64 }
 
     // The row, and its cost.
-    ensures best { IsFound (best_over search.now.case.now search.now.nurse
+    ensures best { IsFound (best_over_at search.now.case.now search.now.nurse search.now.scale
         (offers_on search.now.offers.now)) result (take (day_count search.now.case.now) row.new) }
     ensures below { result < no_row }
     ensures length { length row.new ≡ length row.old }
@@ -131,6 +132,7 @@ fn open_day<'a, 'b>(days: &SearchDays<'a>, day: u16, later: &'b [u32]) -> OpenDa
         search: SearchInput {
             case,
             nurse,
+            scale,
             offers: table,
         },
         rules,
@@ -146,6 +148,7 @@ fn open_day<'a, 'b>(days: &SearchDays<'a>, day: u16, later: &'b [u32]) -> OpenDa
     let search = SearchInput {
         case,
         nurse,
+        scale,
         offers: table,
     };
     let days = SearchDays {

@@ -1,5 +1,5 @@
 use Rattle.roster_prices.specs.Workspaces.{FitsBound}
 use Rattle.roster_bound.proofs.pooled.move_in_node.Given as goal
 
-abbrev pub invariant-loop-moved : goal.invariant-loop-moved
-invariant-loop-moved g l = FitsBound l.case l.bounds
+abbrev pub invariant-loop-made : goal.invariant-loop-made
+invariant-loop-made g l = FitsBound l.case l.bounds

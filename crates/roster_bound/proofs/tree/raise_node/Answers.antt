@@ -4,4 +4,4 @@ use Rattle.roster_bound.proofs.tree.raise_node.Goals as goal
 pub round_in_node-bound-requires-clause-room : goal.round_in_node-bound-requires-clause-room
 round_in_node-bound-requires-clause-room g c =
     let l = c.loop-made in
-    round_fits_meter c.args.upper.now.base.now.case.now l.made c.args.meter.now l.meter l.invariant.counted 12 18446744073709551615 c.loop-made-test.true c.requires.room
+    round_fits_meter c.args.upper.now.base.now.case.now l.made c.args.meter.now l.meter l.invariant.counted c.args.rounds 18446744073709551615 c.loop-made-test.true c.requires.room

@@ -11,6 +11,6 @@ pub returns-clause-completion_bound : goal.returns-clause-completion_bound
 returns-clause-completion_bound c =
     let to : c.min.result ≡ longer c.args.run c.args.day.now.rules.free = omega (arith, c.min.ensures, c.cap.ensures) in
     record {
-      enter = omega (arith, c.min-2.ensures, c.min-enter.ensures, c.day_violations-ended.ensures.violations);
-      off = omega (arith, c.min-2.ensures, ap (next_at c.args.day.now) (rest_index c.args.day.now c.min.result c.args.run to), c.day_violations-more.ensures.violations);
+      enter = omega (arith, c.min-2.ensures, c.min-enter.ensures, c.ends-ended.ensures.cost);
+      off = omega (arith, c.min-2.ensures, ap (next_at c.args.day.now) (rest_index c.args.day.now c.min.result c.args.run to), c.goes_on-more.ensures.cost);
     }

@@ -50,8 +50,8 @@ loop-day-preserved c =
     let within : day * count ≤ c.days-days.result * count = mul-le day count c.days-days.result count (omega (arith, c.loop-day.auto.day)) (omega arith) in
     record {
       set = λ d from below. ⊎_elim
-          (λ l. set_kept search.case.now search.nurse c.args.rates offers c.loop-day.completion_bounds c.set_before.new.completion_bounds (day - 1) d l (λ j m. more.kept j (omega (arith, m, ap (λ e. (day - 1) * e + e) count_is))) (so_far.set d (omega (arith, l)) below))
-          (λ m. let is : day - 1 ≡ d = omega (arith, from, m) in subst (λ e. LieUnder search.case.now search.nurse c.args.rates offers c.set_before.new.completion_bounds e) is more.under)
+          (λ l. set_kept search.case.now search.nurse search.scale c.args.rates offers c.loop-day.completion_bounds c.set_before.new.completion_bounds (day - 1) d l (λ j m. more.kept j (omega (arith, m, ap (λ e. (day - 1) * e + e) count_is))) (so_far.set d (omega (arith, l)) below))
+          (λ m. let is : day - 1 ≡ d = omega (arith, from, m) in subst (λ e. LieUnder search.case.now search.nurse search.scale c.args.rates offers c.set_before.new.completion_bounds e) is more.under)
           (cases_lt (day - 1) d);
       end = λ j l. more.kept (c.days-days.result * count + j) (omega (arith, after, within)) ∙ so_far.end j l;
       low = more.low;
@@ -73,7 +73,7 @@ returns-clause-completion_bounds c _ =
     let search = c.args.search.now in
     let completion_bounds = c.loop-day.completion_bounds in
     let count_is : c.completion_count-count.result ≡ completion_count (sizes_of search.case.now search.nurse) = c.completion_count-count.ensures.count ∙ ap completion_count c.of-ranges.ensures.sizes in
-    all_days search.case.now search.nurse c.args.rates (offers_on search.offers.now) completion_bounds (λ d below. c.loop-day.invariant.set d (omega (arith, c.loop-day-test.false)) below)
+    all_days search.case.now search.nurse search.scale c.args.rates (offers_on search.offers.now) completion_bounds (λ d below. c.loop-day.invariant.set d (omega (arith, c.loop-day-test.false)) below)
     (transport (λ i. (k : ℕ) → k < count_is i → get_or completion_bounds (c.days-days.ensures.count i * count_is i + k) 0 ≡ 0) c.loop-day.invariant.end)
 
 pub returns-clause-counted : goal.returns-clause-counted

@@ -9,7 +9,7 @@ use Rattle.roster_completion.proofs.set.set_completion_bounds.Given as goal
 
 abbrev pub invariant-loop-day : goal.invariant-loop-day
 invariant-loop-day l = record {
-  set : (d : ℕ) → l.day ≤ d → d < day_count l.search.case.now → LieUnder l.search.case.now l.search.nurse l.fn.rates (offers_on l.search.offers.now) l.completion_bounds d;
+  set : (d : ℕ) → l.day ≤ d → d < day_count l.search.case.now → LieUnder l.search.case.now l.search.nurse l.search.scale l.fn.rates (offers_on l.search.offers.now) l.completion_bounds d;
   end : (k : ℕ) → k < l.count → slice_index_or l.completion_bounds (l.days * l.count + k) 0 ≡ 0;
   low : AreLowFrom (l.day * l.count) l.count l.completion_bounds;
   long : length l.completion_bounds ≡ length l.fn.completion_bounds;

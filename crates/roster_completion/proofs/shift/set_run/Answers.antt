@@ -45,7 +45,7 @@ returns-clause-under c =
     let costs = c.run_costs-costs.ensures in
     let to : c.min-to.result ≡ longer c.args.run day.rules.working = omega (arith, c.min-to.ensures, c.cap-most.ensures) in
     let at = line_is day last c.requires.after.in_case c.args.run c.min-to.result to in
-    line_under day c.args.after.now c.requires.after c.args.run c.run_costs-costs.result costs.run costs.off costs.others costs.stay (between first (first + day.shift_runs) day.next.now) c.set_line.new.here
+    line_under day c.args.after.now c.requires.after c.args.run c.run_costs-costs.result costs.run costs.weight costs.off costs.others costs.stay (between first (first + day.shift_runs) day.next.now) c.set_line.new.here
     (λ q l. c.set_line.ensures.leaves q (omega (arith, l, c.set_line.ensures.counted.length_stays, c.requires.capacity)))
     (λ q l. c.set_line.ensures.stays q (omega (arith, l, c.set_line.ensures.counted.length_stays, c.requires.capacity)))
     (λ q l. get_or-between day.next.now first (first + day.shift_runs) q 0 (omega (arith, l)) ∙ ap (λ m. next_at day (m + q)) at)

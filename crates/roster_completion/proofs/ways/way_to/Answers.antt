@@ -17,6 +17,6 @@ returns-clause-open c =
     let u = c.args.shift in
     let first : c.min.result ≡ min 1 (cap (run_of_shift day.case.now u.0)) = omega (arith, c.min.ensures, c.cap.ensures, ap cap c.run_of_shift-run.ensures.limits) in
     record {
-      price = omega (arith, c.apart.ensures.within, c.day_violations.ensures.within);
+      price = omega (arith, c.apart.ensures.within, c.goes_on.ensures.within, day.few_parts);
       index = λ run l. omega (arith, first, begun_within day u c.requires.shift run l);
     }

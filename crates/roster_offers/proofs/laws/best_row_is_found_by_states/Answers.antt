@@ -1,6 +1,6 @@
 use Rattle.roster_offers.specs.Offers.{offers_of}
 use Rattle.roster_offers.proofs.Best.{best_some, is_best, penalty_is}
-use Rattle.roster_offers.proofs.LowRows.{cost_over}
+use Rattle.roster_offers.proofs.ScaleLaws.{cost_over}
 use Rattle.roster_offers.proofs.OfferLaws.{offers_of_case}
 use Rattle.roster_offers.proofs.laws.best_row_is_found_by_states.Goals as goal
 

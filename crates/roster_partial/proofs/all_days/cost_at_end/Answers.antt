@@ -1,4 +1,6 @@
-use Rattle.std.proofs.Common.{◌≡◌, ◌∙◌, ◌+◌, ap, arith, Some, subst, sym}
+use Rattle.std.proofs.Common.{◌≡◌, ◌∙◌, ◌+◌, ◌*◌, ap, arith, Some, subst, sym}
+use Rattle.std.proofs.lemmas.Nat.{mul-le}
+use Rattle.roster_offers.specs.Offers.{end_cost_at}
 use Rattle.roster_state.specs.Transition.{end_cost_of}
 use Rattle.roster_partial.specs.Rates.{FitsNurse}
 use Rattle.roster_partial.specs.Rows.{entry_numbered, rows_in}
@@ -9,10 +11,21 @@ use Rattle.roster_partial.proofs.all_days.cost_at_end.Goals as goal
 use Rattle.roster_partial.proofs.all_days.cost_at_end.Goals.{After-end_cost}
 
 -- what the row costs, as it is computed
-cost : (c : After-end_cost) → (entry_numbered (rows_in c.args.rows.now) c.args.index).cost + end_cost_of c.args.limited.now.completion_bounds.search.case.now c.args.limited.now.completion_bounds.search.nurse (entry_numbered (rows_in c.args.rows.now) c.args.index).state ≡ c.cost_at-days.result + c.end_cost.result
+cost : (c : After-end_cost) → (entry_numbered (rows_in c.args.rows.now) c.args.index).cost + end_cost_at c.args.limited.now.completion_bounds.search.case.now c.args.limited.now.completion_bounds.search.nurse c.args.limited.now.completion_bounds.search.scale (entry_numbered (rows_in c.args.rows.now) c.args.index).state ≡ c.cost_at-days.result + c.args.limited.now.completion_bounds.search.scale * c.end_cost.result
 cost c =
     let search = c.args.limited.now.completion_bounds.search in
-    omega (arith, c.cost_at-days.ensures, c.end_cost.ensures.cost, ap (end_cost_of search.case.now search.nurse) c.row_state-state.ensures)
+    let end = ap (λ k. search.scale * k) (c.end_cost.ensures.cost ∙ ap (end_cost_of search.case.now search.nurse) c.row_state-state.ensures) in
+    omega (arith, c.cost_at-days.ensures, end)
+
+pub overflow_mul-cost : goal.overflow_mul-cost
+overflow_mul-cost c =
+    let search = c.args.limited.now.completion_bounds.search in
+    omega (arith, mul-le search.scale c.end_cost.result 128 19980 search.in_scale.few c.end_cost.ensures.within)
+
+pub overflow_add-cost : goal.overflow_add-cost
+overflow_add-cost c =
+    let search = c.args.limited.now.completion_bounds.search in
+    omega (arith, mul-le search.scale c.end_cost.result 128 19980 search.in_scale.few c.end_cost.ensures.within, c.if-days-limited.false, c.args.limited.now.low)
 
 pub end_cost-requires-clause-fits : goal.end_cost-requires-clause-fits
 end_cost-requires-clause-fits c = subst (FitsNurse c.args.limited.now.completion_bounds.search) (sym c.row_state-state.ensures) c.requires.fits

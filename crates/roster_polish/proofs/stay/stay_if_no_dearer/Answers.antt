@@ -20,9 +20,9 @@ descent_fits k w s l fits search recalls = record {
   bounds = record {
     rows = record { search = search; cover = fits.bounds.rows.cover };
     dual_prices = fits.bounds.dual_prices;
-    tried = fits.bounds.tried;
-    wanted = fits.bounds.wanted;
-    had = fits.bounds.had;
+    aside = fits.bounds.aside;
+    subgradient = fits.bounds.subgradient;
+    direction = fits.bounds.direction;
     pool = fits.bounds.pool;
   };
   recalls = recalls;

@@ -17,7 +17,7 @@ row_bound_in-bound-requires-clause-room g c =
 pub loop-nurse-preserved : goal.loop-nurse-preserved
 loop-nurse-preserved g c =
     let k = c.args.terms.now.case.now in
-    let f = row_bound_in k c.args.terms.now.from c.args.terms.now.given.now (slot_prices c.args.terms.now.dual_prices.now) c.args.node.now in
+    let f = row_bound_in k c.args.terms.now.from c.args.terms.now.given.now c.args.terms.now.scale (slot_prices c.args.terms.now.scale c.args.terms.now.dual_prices.now) c.args.node.now in
     let n = c.loop-nurse.nurse in
     let i = c.loop-nurse.invariant in
     let inside : n < nurse_count k = omega (arith, c.loop-nurse-test.true, c.nurses-nurse-end.ensures.count) in
@@ -34,6 +34,6 @@ loop-nurse-preserved g c =
 pub returns-clause-bounds : goal.returns-clause-bounds
 returns-clause-bounds g c =
     let k = c.args.terms.now.case.now in
-    let f = row_bound_in k c.args.terms.now.from c.args.terms.now.given.now (slot_prices c.args.terms.now.dual_prices.now) c.args.node.now in
+    let f = row_bound_in k c.args.terms.now.from c.args.terms.now.given.now c.args.terms.now.scale (slot_prices c.args.terms.now.scale c.args.terms.now.dual_prices.now) c.args.node.now in
     let all : c.loop-nurse.nurse ≡ nurse_count k = omega (arith, c.loop-nurse-test.false, c.loop-nurse.auto.nurse-end, c.nurses-nurse-end.ensures.count) in
     c.loop-nurse.invariant.so_far ∙ ap (λ m. sum_below m f) all

@@ -10,7 +10,7 @@ use Rattle.roster_prices.proofs.bounds.row_bounds.Given as goal
 
 abbrev pub invariant-loop-nurse : goal.invariant-loop-nurse
 invariant-loop-nurse g l = record {
-  so_far : l.bounds ≡ sum_below l.nurse (row_bound_in l.terms.case.now l.terms.from l.terms.given.now (slot_prices l.terms.dual_prices.now) l.node);
+  so_far : l.bounds ≡ sum_below l.nurse (row_bound_in l.terms.case.now l.terms.from l.terms.given.now l.terms.scale (slot_prices l.terms.scale l.terms.dual_prices.now) l.node);
   within : l.bounds ≤ l.nurse * most_row_bound;
   rows : FitsRows l.terms.case.now l.rows;
   pool : FitsPool l.terms.case.now l.pool;

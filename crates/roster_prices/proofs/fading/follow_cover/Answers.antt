@@ -38,9 +38,9 @@ loop-slot-preserved g c =
       fits = record {
         rows = i.fits.rows;
         dual_prices = c.put_fine.ensures.days ∙ i.fits.dual_prices;
-        tried = i.fits.tried;
-        wanted = i.fits.wanted;
-        had = i.fits.had;
+        aside = i.fits.aside;
+        subgradient = i.fits.subgradient;
+        direction = i.fits.direction;
         pool = i.fits.pool;
       };
     }

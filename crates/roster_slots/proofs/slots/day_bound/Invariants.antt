@@ -7,6 +7,6 @@ use Rattle.roster_slots.proofs.slots.day_bound.Given as goal
 
 abbrev pub invariant-loop-shift : goal.invariant-loop-shift
 invariant-loop-shift l = record {
-  so_far : l.bound ≡ sum_below l.shift (λ s. sum_below (skill_count l.case) (slot_bound l.case (slot_prices l.dual_prices) l.day s));
+  so_far : l.bound ≡ sum_below l.shift (λ s. sum_below (skill_count l.case) (slot_bound l.case l.scale (slot_prices l.scale l.dual_prices) l.day s));
   within : l.bound ≤ l.shift * (8 * most_slot_cost);
 }

@@ -44,11 +44,11 @@ loop-weekends-preserved c =
     let code_is : code_of z c.with_weekends-block.result ≡ code_of z group + w * z.assignments = ap (code_of z) (sym is) ∙ code_block z group r.no_weekends r.no_assignments w in
     let inside : w < z.weekends = omega (arith, c.loop-weekends-test.true, c.below-first.ensures.order, c.weekends.ensures.weekends) in
     let within = weekends_within w z.weekends z.assignments inside in
-    let set : (a : ℕ) → a < z.assignments → slice_index_or c.label_block_end.new.labels (code_of z group + w * z.assignments + a) 0 ≡ label_of (best_at_end k n (with_assignments (with_weekends group w) a)) =
-    λ a below. subst (λ j. slice_index_or c.label_block_end.new.labels (j + a) 0 ≡ label_of (best_at_end k n (with_assignments (with_weekends group w) a))) code_is
-    (subst (λ (b : Summary). slice_index_or c.label_block_end.new.labels (code_of z c.with_weekends-block.result + a) 0 ≡ label_of (best_at_end k n (with_assignments b a))) (sym is) (e.labels a below)) in
+    let set : (a : ℕ) → a < z.assignments → slice_index_or c.label_block_end.new.labels (code_of z group + w * z.assignments + a) 0 ≡ label_of (best_at_end k n days.search.scale (with_assignments (with_weekends group w) a)) =
+    λ a below. subst (λ j. slice_index_or c.label_block_end.new.labels (j + a) 0 ≡ label_of (best_at_end k n days.search.scale (with_assignments (with_weekends group w) a))) code_is
+    (subst (λ (b : Summary). slice_index_or c.label_block_end.new.labels (code_of z c.with_weekends-block.result + a) 0 ≡ label_of (best_at_end k n days.search.scale (with_assignments b a))) (sym is) (e.labels a below)) in
     record {
-      labels = cells_of_weekends k n c.args.boxes.now group z days.own_ranges r.no_weekends r.no_assignments (λ s label. label ≡ label_of (best_at_end k n s)) (λ code. code) c.loop-weekends.labels c.label_block_end.new.labels w 0 z.assignments
+      labels = cells_of_weekends k n c.args.boxes.now group z days.own_ranges r.no_weekends r.no_assignments (λ s label. label ≡ label_of (best_at_end k n days.search.scale s)) (λ code. code) c.loop-weekends.labels c.label_block_end.new.labels w 0 z.assignments
           (λ j low. e.outside.others.before j (omega (arith, low, code_is))) (λ a low below. set a below)
           (λ s like. (omega arith, omega (arith, (like_fits like).assignments, ap (λ (y : Sizes). y.assignments) days.own_ranges))) old.labels;
       outside = rest_then old.outside (rest_wider e.outside _ _ (omega (arith, code_is)) (omega (arith, code_is, within)));

@@ -9,7 +9,7 @@ use Rattle.roster_state.specs.Codes.{shift_digit}
 use Rattle.roster_state.proofs.CodeLemmas.{fits-all}
 use Rattle.roster_offers.specs.Lists.{offers_on}
 use Rattle.roster_tables.specs.Counts.{states_on}
-use Rattle.roster_tables.specs.Search.{boxes_on, search_day}
+use Rattle.roster_tables.specs.Search.{boxes_on}
 use Rattle.roster_tables.specs.Tables.{LeadsOn, IsReachable}
 use Rattle.roster_tables.proofs.SearchLaws.{boxes_read, day_kept, lead_more}
 use Rattle.roster_tables.proofs.MostLaws.{one_reachable}
@@ -42,7 +42,7 @@ loop-day-preserved c =
     let old = c.loop-day.invariant in
     let inside : day + 1 < length c.loop-day.boxes.days = omega (arith, c.loop-day-test.true, c.days-day-end.ensures.count, old.length) in
     let read = boxes_read c.loop-day.boxes.days day _ (omega (arith, inside)) in
-    let here = transport (λ i. All (LeadsOn k (search_day k n day) (read i) c.boxes_after.result) (table day)) c.boxes_after.ensures in
+    let here = transport (λ i. All (LeadsOn k n day (read i) c.boxes_after.result) (table day)) c.boxes_after.ensures in
     record {
       start = subst (λ (x : _). IsReachable k n x (summary_of k n [])) (sym (day_kept k n table c.loop-day.boxes.days day inside c.boxes_after.result 0 (omega arith))) old.start;
       first = subst (λ (x : List StateBox). states_on k n x ≤ 1) (sym (day_kept k n table c.loop-day.boxes.days day inside c.boxes_after.result 0 (omega arith))) old.first;

@@ -7,7 +7,7 @@ use Rattle.roster_instance.specs.declared.choice.Shift.{Shift}
 use Rattle.roster_instance.specs.Meaning.{day_count, shift_count}
 use Rattle.roster_state.specs.Codes.{Sizes, fits_sizes, product}
 use Rattle.roster_offers.proofs.OfferLaws.{shift_of_case}
-use Rattle.roster_offers.specs.Lists.{IsOfferOf, offers_on}
+use Rattle.roster_offers.specs.Lists.{IsOfferAt, offers_on}
 use Rattle.roster_offers.proofs.ListLaws.{no_offer, offers_read}
 use Rattle.roster_offers.proofs.LowRows.{LowRow}
 use Rattle.roster_tables.specs.Days.{boxes_next, best_here, best_next, day_of}
@@ -57,8 +57,9 @@ after-requires-clause-shift c =
     let offers = c.as_slice-offers.result.now in
     let place = c.get-pointer.result in
     let best = low_row _ c.requires.some c.requires.low in
-    let all = subst (All (IsOfferOf k)) (sym (offers_here at)) (c.args.days.now.search.for_nurse.each c.args.day c.requires.day).of_case in
-    let of_case = All-get_or (IsOfferOf k) offers place no_offer (pointer_within _ offers best.row place (pointed at best)) all in
+    let scale = c.args.days.now.search.scale in
+    let all = subst (All (IsOfferAt k scale)) (sym (offers_here at)) (c.args.days.now.search.for_nurse.each c.args.day c.requires.day).of_case in
+    let of_case = All-get_or (IsOfferAt k scale) offers place no_offer (pointer_within _ offers best.row place (pointed at best)) all in
     subst (λ (x : Option Shift). IfSome x (λ u. u.0 < shift_count k)) (sym c.shift.ensures) (shift_of_case k (slice_index_or offers place no_offer).choice of_case.choice)
 
 pub unreachable-requires : goal.unreachable-requires
@@ -81,7 +82,7 @@ returns-clause-reachable c =
     let offers = c.as_slice-offers.result.now in
     let place = c.get-pointer.result in
     let best = low_row _ c.requires.some c.requires.low in
-    let Leads = LeadsOn k (day_of days c.args.day) (boxes_on days.boxes.now c.args.day) (boxes_next days c.args.day) in
+    let Leads = LeadsOn k days.search.nurse c.args.day (boxes_on days.boxes.now c.args.day) (boxes_next days c.args.day) in
     let leads = subst (All Leads) (sym (offers_here at)) (days.are_reachable.lead c.args.day c.requires.day) in
-    after_reachable k (day_of days c.args.day) c.args.state.now c.in-Some.next c.shift.result (boxes_on days.boxes.now c.args.day) (boxes_next days c.args.day) (slice_index_or offers place no_offer)
+    after_reachable k days.search.nurse c.args.day c.args.state.now c.in-Some.next c.shift.result (boxes_on days.boxes.now c.args.day) (boxes_next days c.args.day) (slice_index_or offers place no_offer)
     (All-get_or Leads offers place no_offer (pointer_within _ offers best.row place (pointed at best)) leads) c.requires.reachable c.shift.ensures (sym c.in-Some.is ∙ c.after.ensures.state)

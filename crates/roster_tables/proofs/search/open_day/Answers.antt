@@ -2,9 +2,9 @@ use Rattle.std.proofs.Common.{◌≡◌, ◌∙◌, ◌*◌, ◌≤◌, ap, arit
 use Rattle.std.proofs.Math.Path.{transport}
 use Rattle.std.proofs.lemmas.Nat.{mul-le}
 use Rattle.std.specs.List.{All}
-use Rattle.roster_offers.specs.Lists.{IsOfferOf, offers_on}
+use Rattle.roster_offers.specs.Lists.{IsOfferAt, offers_on}
 use Rattle.roster_offers.proofs.ListLaws.{offers_read}
-use Rattle.roster_tables.specs.Days.{boxes_next, day_of}
+use Rattle.roster_tables.specs.Days.{boxes_next}
 use Rattle.roster_tables.specs.Tables.{LeadsOn}
 use Rattle.roster_tables.proofs.SearchLaws.{boxes_read}
 use Rattle.roster_tables.proofs.search.open_day.Goals as goal
@@ -31,8 +31,8 @@ invariant_of-result c =
       ready = record {
         day = c.requires.day;
         few = omega (arith, c.as_slice-offers.ensures.fits);
-        of_case = subst (All (IsOfferOf days.search.case.now)) back (days.search.for_nurse.each d c.requires.day).of_case;
-        leads = transport (λ i. All (LeadsOn days.search.case.now (day_of days d) (boxes i) (boxes_next days d)) (back i)) (days.are_reachable.lead d c.requires.day);
+        of_case = subst (All (IsOfferAt days.search.case.now days.search.scale)) back (days.search.for_nurse.each d c.requires.day).of_case;
+        leads = transport (λ i. All (LeadsOn days.search.case.now days.search.nurse d (boxes i) (boxes_next days d)) (back i)) (days.are_reachable.lead d c.requires.day);
         later = c.requires.later;
         capacity = c.requires.capacity;
       };
@@ -42,6 +42,7 @@ pub returns : goal.returns
 returns c = record {
   case_is = refl;
   nurse_is = refl;
+  scale_is = refl;
   ranges_are = refl;
   table_is = refl;
   day = refl;

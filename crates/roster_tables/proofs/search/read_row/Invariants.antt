@@ -8,6 +8,6 @@ use Rattle.roster_tables.proofs.search.read_row.Given as goal
 abbrev pub invariant-loop-day : goal.invariant-loop-day
 invariant-loop-day l = record {
   reachable : IsReachableIn l.days l.day l.state;
-  read : (cost : ℕ) (best : List Offer) → best_of_days l.days ≡ Some (cost, best) → IsReadTo l.days.search.case.now l.days.search.nurse (offers_on l.days.search.offers.now) l.day l.state l.row best;
+  read : (cost : ℕ) (best : List Offer) → best_of_days l.days ≡ Some (cost, best) → IsReadTo l.days.search.case.now l.days.search.nurse l.days.search.scale (offers_on l.days.search.offers.now) l.day l.state l.row best;
   same_length : length l.row ≡ length l.fn.row;
 }

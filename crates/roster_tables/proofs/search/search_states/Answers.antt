@@ -3,8 +3,9 @@ use Rattle.std.specs.Vec.{with_items}
 use Rattle.std.proofs.lemmas.List.{get_or_read_under, with_items_is}
 use Rattle.roster_instance.specs.Meaning.{day_count}
 use Rattle.roster_state.specs.Codes.{code_of, product, sizes_of, Sizes, fits_sizes}
-use Rattle.roster_offers.specs.Lists.{best_over, offers_on}
-use Rattle.roster_offers.proofs.LowRows.{LowRow, low_over}
+use Rattle.roster_offers.specs.Lists.{best_over_at, offers_on}
+use Rattle.roster_offers.proofs.LowRows.{LowRow}
+use Rattle.roster_offers.proofs.ScaleLaws.{low_over_at}
 use Rattle.roster_tables.specs.Search.{TableCapacity, boxes_on}
 use Rattle.roster_tables.specs.Tables.{IsReachable}
 use Rattle.roster_tables.proofs.SearchLaws.{first_label, goes_on}
@@ -13,8 +14,10 @@ use Rattle.roster_tables.proofs.search.search_states.Goals as goal
 use Rattle.roster_tables.proofs.search.search_states.Goals.{After-index, After-of-ranges}
 
 -- the best row, and it is low
-found : (c : After-of-ranges) → LowRow (best_over c.args.search.now.case.now c.args.search.now.nurse (offers_on c.args.search.now.offers.now))
-found c = low_over c.args.search.now.case.now c.args.search.now.nurse (offers_on c.args.search.now.offers.now) (λ day within. (c.args.search.now.for_nurse.each day within).of_case) c.keeps_limits.ensures.small c.keeps_limits.ensures.weeks c.requires.some
+found : (c : After-of-ranges) → LowRow (best_over_at c.args.search.now.case.now c.args.search.now.nurse c.args.search.now.scale (offers_on c.args.search.now.offers.now))
+found c =
+    let search = c.args.search.now in
+    low_over_at search.case.now c.keeps_limits.ensures.small c.keeps_limits.ensures.weeks search.nurse search.scale search.in_scale (offers_on search.offers.now) (λ day within. (search.for_nurse.each day within).of_case) c.requires.some
 
 pub invariant_of-days : goal.invariant_of-days
 invariant_of-days c = record { own_rules = c.contract_rules.ensures.rules; own_ranges = c.of-ranges.ensures.sizes; are_reachable = c.requires.are_reachable }
@@ -50,7 +53,7 @@ labels_after c = with_items_is c.tables.inside.labels c.label_days.new.even (c.l
 later_after : (c : After-index) → (with_items c.tables.inside.later c.label_days.new.odd).items ≡ c.label_days.new.odd
 later_after c = with_items_is c.tables.inside.later c.label_days.new.odd (c.label_days.ensures.lengths.of_numbers ∙ c.deref_mut-2.ensures.len)
 
-label_is : (c : After-index) (best : LowRow (best_over c.args.search.now.case.now c.args.search.now.nurse (offers_on c.args.search.now.offers.now))) → c.index.result.now ≡ best.row.0
+label_is : (c : After-index) (best : LowRow (best_over_at c.args.search.now.case.now c.args.search.now.nurse c.args.search.now.scale (offers_on c.args.search.now.offers.now))) → c.index.result.now ≡ best.row.0
 label_is c best =
     let k = c.args.search.now.case.now in
     let n = c.args.search.now.nurse in
@@ -62,7 +65,7 @@ label_is c best =
     let all : product c.of-ranges.result ≤ length c.label_days.new.even = omega (arith, ap (λ (t : TableCapacity). t.labels) c.tables.view_is, c.tables.invariant, c.requires.tables.labels, c.of-ranges.ensures.states, c.label_days.ensures.lengths.of_labels) in
     let items = labels_after c in
     let read = get_or_read_under (with_items c.tables.inside.labels c.label_days.new.even).items code (length c.label_days.new.even) c.index.result.now 0 c.index.ensures (omega (arith, all, c.code.ensures.within)) (sym (ap length items)) ∙ ap (λ (xs : List ℕ). slice_index_or xs code 0) items in
-    first_label k n (offers_on c.args.search.now.offers.now) s c.index.result.now best.row.0 best.row.1 c.start-first.ensures.state (read ∙ boxes_known) best.is best.low
+    first_label k n c.args.search.now.scale (offers_on c.args.search.now.offers.now) s c.index.result.now best.row.0 best.row.1 c.start-first.ensures.state (read ∙ boxes_known) best.is best.low
 
 pub returns-clause-best : goal.returns-clause-best
 returns-clause-best c =
@@ -88,7 +91,7 @@ returns-clause-each_day c =
     let boxes = c.args.boxes.now.days in
     let are_reachable = c.requires.are_reachable in
     let some = reachable_some k n offers boxes (λ day within.
-    let at = goes_on k n offers boxes are_reachable.lead are_reachable.start c.requires.some day (omega (arith, within)) in
+    let at = goes_on k n c.args.search.now.scale offers boxes are_reachable.lead are_reachable.start c.requires.some day (omega (arith, within)) in
     (record { state = at.state; reachable = at.reachable }, (c.args.search.now.for_nurse.each day within).some)) in
     omega (arith, c.label_days.ensures.exactly, some)
 

@@ -1,5 +1,0 @@
-use Rattle.roster_prices.specs.Workspaces.{FitsBound}
-use Rattle.roster_bound.proofs.pooled.move_by_pooled_rows.Given as goal
-
-abbrev pub invariant-loop-made : goal.invariant-loop-made
-invariant-loop-made g l = FitsBound l.case l.bounds
