@@ -2,7 +2,7 @@
 //!
 //! Only the time depends on it: whichever rates and limits a search begins with, it finds the same row.
 
-use crate::rates::{BestBounds, Guess};
+use crate::rates::{BestBounds, Guess, scale_byte};
 use roster_instance::{MAX_CONTRACTS, MAX_NURSES};
 use roster_offers::SearchInput;
 
@@ -104,11 +104,11 @@ impl Guesses {
             _ => spread,
         };
         let guess = Guess {
-            scale: search.scale,
             rates: best.rates,
             spread,
             gap: cost.saturating_sub(best.low),
             is_own: true,
+            scale: scale_byte(search.scale),
         };
         if let Some(nurse) = self.nurses.get_mut(search.nurse) {
             *nurse = Some(guess);

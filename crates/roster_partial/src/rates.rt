@@ -47,7 +47,6 @@ const CLOSE: u32 = 5;
 /// depends on it.
 #[derive(Clone, Copy)]
 pub struct Guess {
-    pub scale: u32,
     pub rates: Rates,
     /// How far apart the lower and the upper bound of its best row's cost were.
     pub spread: u32,
@@ -55,12 +54,19 @@ pub struct Guess {
     pub gap: u32,
     /// Whether it was a search for the same nurse.
     pub is_own: bool,
+    /// Its scale, in a byte.
+    pub scale: u8,
+}
+
+/// A scale in a byte: none is above 128.
+pub(crate) fn scale_byte(scale: u32) -> u8 {
+    scale.min(u8::MAX as u32) as u8
 }
 
 impl Guess {
     /// The same for a search at another scale.
     pub fn at(self, scale: u32) -> Guess {
-        if self.scale == scale {
+        if self.scale as u32 == scale {
             return self;
         }
         let rates = Rates {
@@ -68,17 +74,17 @@ impl Guess {
             weekend: self.parts_at(self.rates.weekend, scale),
         };
         Guess {
-            scale,
             rates,
             spread: self.parts_at(self.spread, scale),
             gap: self.parts_at(self.gap, scale),
             is_own: self.is_own,
+            scale: scale_byte(scale),
         }
     }
 
     /// A number of its parts of a point, in those of another scale.
     fn parts_at(&self, parts: u32, scale: u32) -> u32 {
-        parts.saturating_mul(scale) / self.scale.max(1)
+        parts.saturating_mul(scale) / (self.scale as u32).max(1)
     }
 }
 
