@@ -14,3 +14,4 @@ pub mod ScaleLaws
 pub mod RiseLaws
 pub mod PartLaws
 pub mod WorkspaceLaws
+pub mod ListedLaws

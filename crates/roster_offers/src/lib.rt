@@ -3,6 +3,7 @@
 //!
 //! `SearchesRows` is the contract of a row search: the improver knows a search by this trait alone. A
 //! `Workspace` is what such a search writes into; what fits into one is defined in `specs/Workspaces.antt`.
+//! A search can also list the rows within a limit, into a `RowList` (`specs/Listed.antt`).
 //!
 //! The first of the cheapest is defined in `specs/Cheapest.antt`, rows that lead from state to state in
 //! `specs/ByStates.antt`, what a nurse is offered on a day in `specs/Offers.antt`, and the lists over which
@@ -26,6 +27,7 @@ mod by_shift;
 mod day;
 mod days;
 mod laws;
+mod listed;
 mod lists;
 mod offer;
 mod requests;
@@ -41,8 +43,9 @@ pub use laws::{
     cost_rises_with_prices, offers_are_few, one_offer_for_each_shift_is_enough, scale_one_is_plain,
     scaled_labels_are_low,
 };
+pub use listed::{ListLimits, RowList, WalkDay};
 pub use lists::{DayOffers, MOST_DAYS, SearchInput};
 pub use offer::{MOST_CHOICES, MOST_OFFERS, Offer};
 pub use requests::request_cost;
 pub use scale::greatest_scale;
-pub use workspace::{BestFault, SearchesRows, Workspace, most_search_extensions};
+pub use workspace::{BestFault, ListInput, SearchesRows, Workspace, most_search_extensions};

@@ -6,9 +6,11 @@ ghost use Rattle.roster_instance.specs.Limits.{most_days, most_shifts, most_skil
 ghost use Rattle.roster_instance.specs.Meaning.{Meaning, day_count, nurse_count};
 ghost use Rattle.roster_laws.specs.Greatest.{extension_count, greatest_state_count};
 ghost use Rattle.roster_offers.specs.declared.offer.Offer.{Offer};
+ghost use Rattle.roster_offers.specs.Listed.{KeepsList};
 ghost use Rattle.roster_offers.specs.Lists.{AreOffers, AreOffersAt, IsFound, IsScaleOf, best_over, best_over_at, no_row, offers_on};
 ghost use Rattle.roster_offers.specs.Workspaces.{HasTables, SameCapacity, TableCapacity, fits_space};
 
+use crate::listed::{ListLimits, RowList};
 use crate::lists::{DayOffers, SearchInput};
 use crate::offer::{MOST_OFFERS, Offer};
 use arrayvec::ArrayVec;
@@ -77,6 +79,27 @@ pub trait SearchesRows: Drop {
             (offers_on search.now.offers.now) meter.old meter.new }
         ensures tables { capacity self.new ≡ capacity self.old };
 
+    /// Lists rows over a table of offers that cost at most a limit, in the order of rows, as long as the list
+    /// has capacity and extensions are left. Returns whether it came to its end before either ran out. No
+    /// contract says that all rows within the limit are then listed. It takes no memory.
+    fn list(
+        &mut self,
+        search: &SearchInput<'_>,
+        limits: ListLimits,
+        list: &mut RowList,
+        meter: &mut Meter,
+    ) -> bool
+        requires tables { HasTables search.now.case.now search.now.nurse (capacity self.old) }
+        requires room { meter.old + limits.extensions ≤ greatest_u64 }
+
+        // The list.
+        ensures kept { KeepsList list.old list.new }
+        ensures few { list.new.held ≤ length list.new.costs.items }
+
+        // What it takes.
+        ensures counted { (meter.old ≤ meter.new) × (meter.new ≤ meter.old + limits.extensions) }
+        ensures tables { capacity self.new ≡ capacity self.old };
+
     /// What is counted depends on each day's offers alone.
     ghost counted_same: { (c : Meaning) (n : ℕ) (f g : ℕ → List Offer) →
         ((day : ℕ) → day < day_count c → f day ≡ g day) → (before after : ℕ) →
@@ -123,6 +146,14 @@ impl<T: SearchesRows> Model for Workspace<T> {
     } };
 
     ghost invariant = { λ w. w.filled ≤ length w.choices.items };
+}
+
+/// A nurse of a case, and the scale at which her rows are listed.
+#[derive(Clone, Copy)]
+pub struct ListInput<'a> {
+    pub case: &'a Case,
+    pub nurse: usize,
+    pub scale: u32,
 }
 
 /// Why there is no workspace.
@@ -278,6 +309,37 @@ impl<T: SearchesRows> Workspace<T> {
         let cost = self.tables.search(&search, &mut self.choices, meter);
         self.filled = case.days() as usize;
         cost
+    }
+
+    /// Lists rows over the offers that were put in which cost at most a limit, as `SearchesRows::list` does.
+    pub fn list_at(
+        &mut self,
+        input: &ListInput<'_>,
+        limits: ListLimits,
+        list: &mut RowList,
+        meter: &mut Meter,
+    ) -> bool
+        requires nurse { input.now.nurse < nurse_count input.now.case.now }
+        requires scale { IsScaleOf input.now.case.now input.now.scale }
+        requires offers { AreOffersAt input.now.case.now input.now.nurse input.now.scale
+            self.old.offers }
+        requires fits { fits_space input.now.case.now self.old ≡ true }
+        requires room { meter.old + limits.extensions ≤ greatest_u64 }
+        ensures kept { KeepsList list.old list.new }
+        ensures few { list.new.held ≤ length list.new.costs.items }
+        ensures counted { (meter.old ≤ meter.new) × (meter.new ≤ meter.old + limits.extensions) }
+        ensures same_capacity { SameCapacity self.old self.new }
+        ensures fits { fits_space input.now.case.now self.new ≡ true }
+        ensures offers { self.new.offers ≡ self.old.offers }
+        ensures row { self.new.row ≡ self.old.row }
+    {
+        let search = SearchInput {
+            case: input.case,
+            nurse: input.nurse,
+            scale: input.scale,
+            offers: self.offers.as_slice(),
+        };
+        self.tables.list(&search, limits, list, meter)
     }
 
     /// The row of the last search, with a choice for each day; empty before the first.

@@ -6,15 +6,16 @@
 //! dominated, `is_pruned` says which are pruned by their completion bound, `add_day` goes from one day to the
 //! next, and `row_within` reads the row in the end. `set_best_bounds` sets the completion bounds.
 //! `search_row` tries one limit after another, and if none is high enough or the partial rows run out of
-//! capacity or of extensions, it falls back to the label tables of `roster_tables`. `RowSearcher` is this
-//! search behind the trait `SearchesRows` of `roster_offers`, and a `Workspace` is the memory of such a
-//! search.
+//! capacity or of extensions, it falls back to the label tables of `roster_tables`. `list_rows` goes over the
+//! rows within a limit one after another, by the same completion bounds. `RowSearcher` is this search behind
+//! the trait `SearchesRows` of `roster_offers`, and a `Workspace` is the memory of such a search.
 #![tactic(auto)]
 
 mod all_days;
 mod allowed;
 mod guesses;
 mod limited;
+mod listing;
 mod one_day;
 mod one_offer;
 mod rates;

@@ -3,6 +3,7 @@
 ghost use Rattle.std.specs.Prelude.{◌≡◌, ◌+◌, ◌-◌, ◌*◌, ◌/◌, ◌<◌, ◌≤◌, ℕ, IfSome, IsSome, None, length, min, take};
 ghost use Rattle.roster_bundle.specs.Limits.{greatest_u64};
 ghost use Rattle.roster_laws.specs.Greatest.{extension_count};
+ghost use Rattle.roster_offers.specs.Listed.{KeepsList};
 ghost use Rattle.roster_offers.specs.Lists.{IsFound, no_row};
 ghost use Rattle.roster_tables.specs.Search.{HasTables};
 ghost use Rattle.roster_partial.specs.Counts.{CountsPartial, CountsSearch};
@@ -14,11 +15,12 @@ ghost use Rattle.roster_partial.specs.declared.all_days.Within.TheVariants.{Dear
 use crate::all_days::{Within, row_within};
 use crate::guesses::Guesses;
 use crate::limited::{Bounded, LimitedSearch};
+use crate::listing::list_rows;
 use crate::rates::{Guess, set_best_bounds};
 use crate::rows::{MOST_ROWS, REMAINDERS, ROW_CELLS, RecentRows};
 use roster_completion::{CompletionBounds, Rates, completion_cells};
 use roster_instance::Choice;
-use roster_offers::{SearchInput, most_search_extensions};
+use roster_offers::{ListLimits, RowList, SearchInput, most_search_extensions};
 use roster_state::Meter;
 use roster_tables::{DayBoxes, NO_ROW, Tables, extensions_at_most, find_boxes};
 
@@ -136,6 +138,32 @@ fn search_in_tables(
 {
     let (labels, later) = (&mut tables.labels, &mut tables.later);
     search_partial(bounded, hints, labels, later, row, meter)
+}
+
+/// Lists the rows of a search that cost at most a limit, with the completion bounds in the cells of a table.
+/// Returns false if the list is full or extensions run out.
+pub fn list_in_tables(
+    search: &SearchInput<'_>,
+    limits: ListLimits,
+    hints: &Hints,
+    tables: &mut Tables,
+    list: &mut RowList,
+    meter: &mut Meter,
+) -> bool
+    requires room { meter.old + limits.extensions ≤ greatest_u64 }
+    ensures kept { KeepsList list.old list.new }
+    ensures few { list.new.held ≤ length list.new.costs.items }
+    ensures counted { (meter.old ≤ meter.new) × (meter.new ≤ meter.old + limits.extensions) }
+    ensures tables { tables.new ≡ tables.old }
+{
+    list_rows(
+        search,
+        limits,
+        &hints.guesses,
+        &mut tables.labels,
+        list,
+        meter,
+    )
 }
 
 /// Searches the best row by partial rows, within higher and higher limits: from the lower bound of its cost

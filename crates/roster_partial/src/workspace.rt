@@ -1,8 +1,8 @@
 //! The memory of a search by partial rows and label tables.
 
-use crate::search::{Hints, search_row};
+use crate::search::{Hints, list_in_tables, search_row};
 use roster_instance::Choice;
-use roster_offers::{SearchInput, SearchesRows};
+use roster_offers::{ListLimits, RowList, SearchInput, SearchesRows};
 use roster_state::Meter;
 use roster_tables::{DayBoxes, Tables};
 use std::alloc::{AllocError, Global};
@@ -66,5 +66,15 @@ impl SearchesRows for RowSearcher {
             row,
             meter,
         )
+    }
+
+    fn list(
+        &mut self,
+        search: &SearchInput<'_>,
+        limits: ListLimits,
+        list: &mut RowList,
+        meter: &mut Meter,
+    ) -> bool {
+        list_in_tables(search, limits, &self.hints, &mut self.tables, list, meter)
     }
 }

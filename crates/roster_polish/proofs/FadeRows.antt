@@ -22,10 +22,10 @@ use Rattle.roster_laws.proofs.OneRow.{other_row, own_row}
 use Rattle.roster_slots.specs.Slots.{SlotPrices}
 use Rattle.roster_prices.specs.LowerBounds.{can_work, row_by_dual_prices, own_rows, row_cost_by}
 
-module _ (c : Meaning) (from : ℕ) (given : Rows) (w : SlotPrices) (n : ℕ) (row : Row) (is : row_by_dual_prices c from given 1 w n ≡ Some row) where
+module _ (c : Meaning) (from : ℕ) (given : Rows) (scale : ℕ) (w : SlotPrices) (n : ℕ) (row : Row) (is : row_by_dual_prices c from given scale w n ≡ Some row) where
   among : Contains (own_rows c from given n) row
   among =
-      let found = least.found (row_cost_by c 1 w n) (own_rows c from given n) row is in
+      let found = least.found (row_cost_by c scale w n) (own_rows c from given n) row is in
       rw found.split (Contains-append_right found.before (row ∷ found.after) row (0, omega arith, refl))
 
   pub found_fits : is_row_of c row ≡ true

@@ -1,11 +1,15 @@
 -- Rows that are faded, and faded further, by searches that were made.
-use Rattle.std.proofs.Common.{◌≡◌, ◌∙◌, ◌+◌, ◌-◌, ◌*◌, ◌<◌, ◌≤◌, ℕ, ap, arith, mul_assoc, sym}
+use Rattle.std.proofs.Common.{◌≡◌, ◌∙◌, ◌+◌, ◌-◌, ◌*◌, ◌<◌, ◌≤◌, ℕ, ap, arith, mul_assoc, refl, suc, sym, zero}
 use Rattle.roster_instance.specs.Meaning.{Meaning, day_count, nurse_count}
 use Rattle.roster_prices.specs.declared.offers.Base.{Base}
 use Rattle.roster_polish.specs.declared.kick.Kicking.{Kicking}
 use Rattle.roster_polish.specs.declared.space.PolishSpace.{PolishSpace}
 use Rattle.roster_polish.specs.Fades.{AreFaded, AreMade}
 use Rattle.roster_polish.proofs.Steps.{both_of, one_and_rest, spent_both}
+
+pub some_left : (left : ℕ) → (left ≡ 0 → ⊥) → 0 < left
+some_left zero some = absurd (some refl)
+some_left (suc left) some = omega arith
 
 -- one search
 pub made_one : (c : Meaning) (meter new left : ℕ) → 0 < left → meter + day_count c ≤ new → AreMade c meter left new (left - 1)
@@ -27,9 +31,11 @@ pub faded_then : {T : Type 0} {base : Base} {kicking kicking2 kicking3 : Kicking
     → AreFaded base kicking kicking2 space space2 meter meter2 → AreFaded base kicking2 kicking3 space2 space3 meter2 meter3 → AreFaded base kicking kicking3 space space3 meter meter3
 faded_then {base} {kicking} {kicking2} {kicking3} {space} {space2} {space3} {meter} {meter2} {meter3} first later = record {
   kept = later.kept ∙ first.kept;
+  best = later.best ∙ first.best;
   frozen = later.frozen;
   passes = later.passes ∙ first.passes;
   made = made_both base.case.now meter kicking.searches.left meter2 kicking2.searches.left meter3 kicking3.searches.left first.made later.made;
   spends = spent_both base.case.now meter kicking.searches.left meter2 kicking2.searches.left meter3 kicking3.searches.left first.spends later.spends;
+  recalls = later.recalls;
   fits = later.fits;
 }

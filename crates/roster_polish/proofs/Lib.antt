@@ -1,6 +1,7 @@
 pub mod KickRows
 pub mod Steps
 pub mod Keeping
+pub mod Memory
 pub mod FadeRows
 pub mod KickLogs
 pub mod Passes

@@ -4,3 +4,4 @@ pub mod Polished
 pub mod Plans
 pub mod Fades
 pub mod Tries
+pub mod Near

@@ -10,7 +10,7 @@ use Rattle.roster_rules.specs.AllowedRows.{best_row}
 use Rattle.roster_rules.specs.Improver.{Run, line, round, run, same_rows, start_word}
 use Rattle.roster_reports.specs.declared.log_fault.LogFault.{LogFault}
 use Rattle.roster_reports.specs.declared.log_fault.LogFault.TheVariants.{LogFailed}
-use Rattle.roster_row.specs.Recalled.{RecallsSearches}
+use Rattle.roster_row.specs.Recalled.{RecallsSearches, RecallsSearchesAt}
 use Rattle.roster_prices.specs.Workspaces.{FitsBound}
 use Rattle.roster_polish.specs.declared.run.Polished.{Polished}
 use Rattle.roster_polish.specs.declared.space.PolishSpace.{PolishSpace}
@@ -46,7 +46,8 @@ descent_searches c from given = rounds_made c from descent_rounds given * nurse_
 -- ---- the memory of a run
 
 -- that for lower bounds, the last searches by true prices, also of the kept roster, nine numbers for each
--- day, and a roster of the case; for a fade what each slot pays, one more roster, and an order of the nurses
+-- day, and a roster of the case; for a fade what each slot pays, its last searches, which are at one scale,
+-- one more roster, and an order of the nurses; the best roster, and the dual prices that fades begin with
 pub record FitsPolish {T : Type 0} (c : Meaning) (w : PolishSpace T) : Type 0 where
   pub bounds : FitsBound c w.bounds
   pub recalls : RecallsSearches c w.last
@@ -54,7 +55,10 @@ pub record FitsPolish {T : Type 0} (c : Meaning) (w : PolishSpace T) : Type 0 wh
   pub dearer : length w.dearer.items ≡ 9 * day_count c
   pub kept : fits_case c w.kept ≡ true
   pub fade_prices : w.fade_prices.days ≡ day_count c
+  pub fade_recalls : (scale : ℕ) × RecallsSearchesAt c scale w.fade_last
   pub faded : fits_case c w.faded ≡ true
+  pub best : fits_case c w.best ≡ true
+  pub first_prices : w.first_prices.days ≡ day_count c
   pub count : length w.order.items ≡ nurse_count c
   pub order : All (λ n. n < nurse_count c) w.order.items
 

@@ -40,6 +40,25 @@ pub record StaysNoDearer {T : Type 0} (c : Meaning) (from : ℕ) (given : Rows)
   -- the memory serves another try
   pub fits : FitsPolish c space
 
+-- the held roster was changed, and is settled and kept if the result says so; the best one stays aside
+pub record GoesOnSettled {T : Type 0} (c : Meaning) (from : ℕ) (given : Rows)
+    (held : HeldRoster) (searches_old searches : Searches) (space_old space : PolishSpace T)
+    (meter_old meter : ℕ) (result : Bool) : Type 0 where
+  -- the case is the same
+  pub case : held.case ≡ c
+  -- what is held is what is kept
+  pub kept : result ≡ true → space.kept ≡ held.roster
+  -- no nurse has a cheaper row
+  pub settled : result ≡ true → IsSettled c from held.roster
+  -- the frozen days are as they were
+  pub frozen : FrozenDaysStay c from given held.roster
+  -- the best roster so far stays
+  pub best : space.best ≡ space_old.best
+  -- the searches were among those that were left, and the meter has counted them
+  pub spends : Spends c meter_old searches_old.left meter searches.left
+  -- the memory serves another try
+  pub fits : FitsPolish c space
+
 -- nurses were kicked out of their rows
 pub record AreKicked {T : Type 0} (from : ℕ) (held_old held : HeldRoster) (searches_old searches : Searches)
     (space_old space : PolishSpace T) (meter_old meter : ℕ) : Type 0 where

@@ -7,6 +7,7 @@ ghost use Rattle.roster_instance.specs.Limits.{most_nurses};
 ghost use Rattle.roster_instance.specs.Meaning.{day_count, nurse_count};
 ghost use Rattle.roster_rules.specs.HardRules.{keeps_hard};
 ghost use Rattle.roster_laws.specs.FrozenDays.{FrozenDaysStay};
+ghost use Rattle.roster_row.specs.Recalled.{RecallsSearchesAt};
 ghost use Rattle.roster_laws.specs.Greatest.{extension_count};
 ghost use Rattle.roster_polish.specs.Fades.{AreFaded};
 ghost use Rattle.roster_polish.specs.Polished.{FitsPolish};
@@ -34,11 +35,13 @@ const MORE_PASSES: u64 = 6;
 /// times as many.
 const BELOW_MINIMUM: u32 = 100;
 
-/// The length of a fade: its passes, and its searches, after which its last passes follow at once.
+/// The length of a fade: its passes; its searches, after which its last passes follow at once; and in the
+/// last of how many parts of its searches the share of the dual prices falls at the latest.
 #[derive(Clone, Copy)]
 struct Length {
     passes: u64,
     searches: u64,
+    parts: u64,
 }
 
 /// Fades the roster and runs a descent. If the roster is then settled and no dearer, it stays and is kept;
@@ -61,7 +64,9 @@ pub(crate) fn try_fade<T: SearchesRows>(
     if kicking.passes == 0 {
         return false;
     }
-    if !fade_rows(&base, kicking, space, meter) {
+    let keeps = fade_rows(&base, kicking, space, meter);
+    space.restore_prices(base.case);
+    if !keeps {
         space.last.put(&space.kept_last);
         return false;
     }
@@ -94,6 +99,7 @@ pub(crate) fn fade_rows<T: SearchesRows>(
         searches: (kicking.passes / kicking.passes_per_search.max(1)).saturating_mul(
             base.case.nurses() as u64,
         ),
+        parts: kicking.passes_per_search / 2,
     };
     space.begin_fade(base.case, base.given);
     for pass in 0..length.passes.saturating_add(MORE_PASSES) {
@@ -120,14 +126,17 @@ pub(crate) fn fade_rows<T: SearchesRows>(
 const LAST_PASSES: u64 = 2;
 
 /// How far a fade has come in one of its passes, after `made` searches. The share of the dual prices falls
-/// evenly from all to none, which it has in the last two passes and from there on. It falls sooner if the
-/// last quarter of the searches requires that.
+/// from all to none, which it has in the last two passes and from there on: as the square root of the passes
+/// that are left, or of the last part of the searches if that is less.
 fn fading_in(pass: u64, made: u64, length: Length) -> Fading {
     let even = length.passes.saturating_sub(LAST_PASSES);
-    let quarters = length.searches.saturating_sub(made).saturating_mul(4);
-    let share = share_of(even.saturating_sub(pass), even).min(share_of(quarters, length.searches));
+    let parts = length
+        .searches
+        .saturating_sub(made)
+        .saturating_mul(length.parts);
+    let left = share_of(even.saturating_sub(pass), even).min(share_of(parts, length.searches));
     Fading {
-        share,
+        share: root_of(left),
         missing: BELOW_MINIMUM * times_in(pass, length.passes),
     }
 }
@@ -136,6 +145,18 @@ fn fading_in(pass: u64, made: u64, length: Length) -> Fading {
 fn share_of(part: u64, all: u64) -> u32 {
     let whole = WHOLE as u64;
     (whole.saturating_mul(part) / all.max(1)).min(whole) as u32
+}
+
+/// The square root of a share, in 1024ths as well, rounded down.
+fn root_of(share: u32) -> u32 {
+    let mut root: u32 = 0;
+    for halvings in 0..11u32 {
+        let next = root.saturating_add(WHOLE >> halvings);
+        if next.saturating_mul(next) <= WHOLE * share.min(WHOLE) {
+            root = next;
+        }
+    }
+    root
 }
 
 /// How far dual prices move after a pass, in fine units: farther the fewer passes there are, and by the share
@@ -180,6 +201,7 @@ pub(crate) fn make_fade_pass<T: SearchesRows>(
     requires able { CanSearch base.now.case.now kicking.old.searches space.old meter.old }
     requires frozen { FrozenDaysStay base.now.case.now base.now.from base.now.given.now
         space.old.faded }
+    requires recalls { RecallsSearchesAt base.now.case.now base.now.scale space.old.fade_last }
     ensures fewer { 0 < kicking.old.searches.left →
         kicking.new.searches.left < kicking.old.searches.left }
     ensures faded { AreFaded base.now kicking.old kicking.new space.old space.new meter.old
@@ -215,19 +237,22 @@ fn fade_nurse<T: SearchesRows>(
     requires fits { FitsPolish base.now.case.now space.old }
     requires frozen { FrozenDaysStay base.now.case.now base.now.from base.now.given.now
         space.old.faded }
+    requires recalls { RecallsSearchesAt base.now.case.now base.now.scale space.old.fade_last }
     requires room { meter.old + extension_count base.now.case.now turn.nurse ≤ greatest_u64 }
     ensures kept { space.new.kept ≡ space.old.kept }
+    ensures best { space.new.best ≡ space.old.best }
     ensures frozen { FrozenDaysStay base.now.case.now base.now.from base.now.given.now
         space.new.faded }
     ensures surely { turn.surely ≡ true → result ≡ true }
     ensures each_day { result ≡ true → meter.old + day_count base.now.case.now ≤ meter.new }
     ensures spared { result ≡ false → meter.new ≡ meter.old }
     ensures counted { meter.new ≤ meter.old + extension_count base.now.case.now turn.nurse }
+    ensures recalls { RecallsSearchesAt base.now.case.now base.now.scale space.new.fade_last }
     ensures fits { FitsPolish base.now.case.now space.new }
 {
     let PolishSpace {
         bounds,
-        last,
+        fade_last,
         fade_prices,
         faded,
         ..
@@ -240,10 +265,10 @@ fn fade_nurse<T: SearchesRows>(
         dual_prices: fade_prices,
         given: base.given,
         from: base.from,
-        scale: 1,
+        scale: base.scale,
     };
     let workspace = &mut bounds.rows.workspace;
-    let searched = visit(&terms, turn, faded.row(nurse), workspace, last, meter);
+    let searched = visit(&terms, turn, faded.row(nurse), workspace, fade_last, meter);
     if searched {
         faded.put_row(nurse, bounds.rows.workspace.row());
     }

@@ -16,18 +16,20 @@ use crate::random::Random;
 use crate::searches::Searches;
 use crate::space::PolishSpace;
 use crate::stay::stay_if_no_dearer;
+use crate::turns::Turns;
 use roster_case::Held;
 use roster_offers::{SearchesRows, Workspace};
 use roster_state::Meter;
 
 /// What a fade and kicks take: searches and random numbers; how many passes the fade makes, 0 if there is no
-/// fade; and in how many of them each nurse may be searched once.
+/// fade; in how many of them each nurse may be searched once; and whose turn it is after the first fade.
 #[derive(Clone, Copy)]
 pub(crate) struct Kicking {
     pub(crate) searches: Searches,
     pub(crate) random: Random,
     pub(crate) passes: u64,
     pub(crate) passes_per_search: u64,
+    pub(crate) turns: Turns,
 }
 
 /// What is drawn for a kick: whether its prices go by dual prices, its weeks, how many of a hundred prices

@@ -6,6 +6,7 @@ ghost use Rattle.roster_instance.specs.Rosters.{fits_case};
 ghost use Rattle.roster_rules.specs.HardRules.{keeps_hard};
 ghost use Rattle.roster_prices.specs.LowerBounds.{HaveRows};
 ghost use Rattle.roster_laws.specs.FrozenDays.{FrozenDaysStay};
+ghost use Rattle.roster_row.specs.Recalled.{RecallsSearchesAt};
 ghost use Rattle.roster_polish.specs.Fades.{AreFaded, AreMade};
 ghost use Rattle.roster_costs.specs.Minimums.{missing};
 ghost use Rattle.roster_costs.specs.Irreparable.{irreparable};
@@ -20,6 +21,7 @@ use crate::random::Random;
 use crate::run::{Course, rounds_within};
 use crate::searches::Searches;
 use crate::space::PolishSpace;
+use crate::turns::Turns;
 use roster_costs::{first_absent_before, first_hard, first_succession_before, missing};
 use roster_instance::{Case, Roster};
 use roster_offers::{SearchesRows, greatest_scale};
@@ -144,6 +146,7 @@ fn begin_plan<T: SearchesRows>(
         random: Random::of_seed(course.seed),
         passes: FIRST_PASSES,
         passes_per_search: PASSES_PER_SEARCH,
+        turns: Turns::default(),
     }
 }
 
@@ -236,6 +239,7 @@ fn repair_rows<T: SearchesRows>(
     requires able { CanSearch base.now.case.now kicking.old.searches space.old meter.old }
     requires frozen { FrozenDaysStay base.now.case.now base.now.from base.now.given.now
         space.old.faded }
+    requires recalls { RecallsSearchesAt base.now.case.now base.now.scale space.old.fade_last }
     ensures keeps { result ≡ true → keeps_hard base.now.case.now space.new.faded ≡ true }
     ensures faded { AreFaded base.now kicking.old kicking.new space.old space.new meter.old
         meter.new }

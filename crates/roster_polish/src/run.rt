@@ -1,21 +1,25 @@
-//! A run of a fade and kicks.
+//! A run of a fade and of searches in neighbourhoods, or of kicks.
 
 ghost use Rattle.std.specs.Prelude.{◌≡◌, ◌+◌, ◌*◌, ◌/◌, ◌<◌, ◌≤◌, false, true, codes, if◌then◌else◌, IfErr, IfOk};
 ghost use Rattle.roster_bundle.specs.Limits.{greatest_u64};
 ghost use Rattle.roster_instance.specs.Limits.{most_nurses};
 ghost use Rattle.roster_laws.specs.FrozenDays.{FrozenDaysStay};
 ghost use Rattle.roster_rules.specs.Penalties.{penalty};
-ghost use Rattle.roster_polish.specs.Fades.{TakesAllBut, spared};
+ghost use Rattle.roster_polish.specs.Fades.{most_each, passes_each, searches_each};
 ghost use Rattle.roster_polish.specs.Polished.{FitsPolish, GivenLogStops, PolishLogStops, Polishes, PolishesGiven, first_searches, descent_searches};
 ghost use Rattle.roster_polish.specs.Settled.{extensions_of};
+ghost use Rattle.roster_polish.specs.Tries.{CanSearch, StaysNoDearer};
 
+use crate::again::try_again;
 use crate::descend::descend_first;
 use crate::fade::try_fade;
 use crate::kick::{Kicking, try_kick};
 use crate::log::log_kick;
+use crate::near::try_near;
 use crate::random::Random;
 use crate::searches::Searches;
 use crate::space::PolishSpace;
+use crate::turns::Turns;
 use roster_case::Held;
 use roster_offers::SearchesRows;
 use roster_prices::{Base, improve_dual_prices};
@@ -41,10 +45,11 @@ pub struct Polished {
     pub total: u64,
 }
 
-/// Runs a descent, then fades the roster, and then kicks a few nurses at a time out of their rows, as long as
-/// searches are left. A descent follows the fade and each kick, and the roster stays if it is then no dearer.
-/// A fade that stayed and each kick that left the roster cheaper have a line in the log, which goes out as it
-/// is made; the first line has the penalty of the given roster. It takes no memory.
+/// Runs a descent, then fades the roster, and then searches neighbourhoods of it, as long as searches are
+/// left. If kicks alone are asked for, it kicks a few nurses at a time out of their rows in place of both. A
+/// descent follows each of these, and the roster stays if it is then no dearer. A fade that stayed and each
+/// later try that left the roster cheaper have a line in the log, which goes out as it is made; the first
+/// line has the penalty of the given roster. It takes no memory.
 ///
 /// # Errors
 ///
@@ -112,17 +117,19 @@ pub fn polish_found<W: Write, T: SearchesRows>(
     let mut sent = log_start(log, 0, held.case(), start)?;
     let mut settled = descend_first(held, course.from, space, meter);
     let mut kicking = begin(held, course, space, meter);
+    let all = kicking.searches.left;
     if try_fade(held, course.from, &mut kicking, space, meter) {
         settled = true;
         held.keeps_rules();
         sent = log_word(log, sent, b"fade", held.total())?;
     }
+    kicking.turns = Turns::after_fade(all, kicking.searches.left);
     for kicks_before in 0..course.searches {
         if kicking.searches.left == 0 {
             break;
         }
         let before = held.total();
-        if !try_kick(held, course.from, &mut kicking, space, meter) {
+        if !try_change(held, course, &mut kicking, space, meter) {
             continue;
         }
         settled = true;
@@ -138,6 +145,36 @@ pub fn polish_found<W: Write, T: SearchesRows>(
     Ok(Polished { settled, total })
 }
 
+/// Tries one change: a kick if kicks alone are asked for, and else another fade or a search in a
+/// neighbourhood, whichever is next. If the roster is then settled and no dearer, it stays and is kept; else
+/// the kept one comes back. Returns whether it stayed.
+fn try_change<T: SearchesRows>(
+    held: &mut Held,
+    course: &Course,
+    kicking: &mut Kicking,
+    space: &mut PolishSpace<T>,
+    meter: &mut Meter,
+) -> bool
+    requires able { CanSearch held.old.case kicking.old.searches space.old meter.old }
+    requires kept { space.old.kept ≡ held.old.roster }
+    ensures tried { StaysNoDearer held.old.case course.now.from held.old.roster held.new
+        kicking.old.searches kicking.new.searches space.new meter.old meter.new result }
+{
+    if course.kicks_alone {
+        return try_kick(held, course.from, kicking, space, meter);
+    }
+    let before = held.total();
+    let stayed = if kicking.turns.fades_next(kicking.searches.left) {
+        try_again(held, course.from, kicking, space, meter)
+    } else {
+        try_near(held, course.from, &mut kicking.searches, space, meter)
+    };
+    kicking
+        .turns
+        .record(kicking.searches.left, held.total() < before);
+    stayed
+}
+
 /// The word of the log's last line.
 fn end_word(settled: bool) -> &'static [u8]
     ensures { result.now ≡ (if settled then codes "settled" else codes "stopped") }
@@ -145,8 +182,8 @@ fn end_word(settled: bool) -> &'static [u8]
     if settled { b"settled" } else { b"stopped" }
 }
 
-/// Improves the dual prices from which a fade begins and by which kicks price, with at most half of the
-/// searches, and keeps the roster.
+/// Improves the dual prices from which a fade begins and by which kicks price, with at most a quarter of the
+/// searches, or half of them for kicks alone, and keeps the roster.
 fn begin<T: SearchesRows>(
     held: &Held,
     course: &Course,
@@ -163,23 +200,24 @@ fn begin<T: SearchesRows>(
 {
     held.case().keeps_limits();
     let nurses = held.case().nurses() as u32;
-    let parts = if course.kicks_alone { 2 } else { 3 };
+    let parts = if course.kicks_alone { 2 } else { 4 };
     let rounds = rounds_within(course.searches, parts, nurses);
     let base = Base::of(held, course.from);
     let penalty = Some(held.total());
+    space.near.begin_run(base.case, course.seed);
     improve_dual_prices(&base, rounds as u16, penalty, &mut space.bounds, meter);
+    space.first_prices.copy(&space.bounds.dual_prices);
     space.keep(held);
     let left = course.searches - rounds * nurses;
+    let passes = passes_within(course, left, nurses);
     Kicking {
         searches: Searches { left: left as u64 },
         random: Random::of_seed(course.seed),
-        passes: passes_within(course, left, nurses),
-        passes_per_search: PASSES_PER_SEARCH,
+        passes: passes.all,
+        passes_per_search: passes.per_search,
+        turns: Turns::default(),
     }
 }
-
-/// In how many passes of a fade each nurse may be searched once: mostly she can gain little.
-const PASSES_PER_SEARCH: u64 = 16;
 
 /// For how many rounds over all nurses the dual prices are improved: a hundred, or as many as take one of
 /// `parts` equal parts of the searches.
@@ -193,31 +231,55 @@ pub(crate) fn rounds_within(searches: u32, parts: u32, nurses: u32) -> u32
     (searches / (parts * nurses.max(1))).min(100)
 }
 
-/// How many passes over all nurses a fade makes: none for kicks alone, and else as many as take the searches
-/// that are left if one nurse of sixteen is searched in each. It leaves three in a hundred of all searches,
-/// or ten for each nurse if that is more. With fewer than 25 searches for each nurse it may end below a
-/// minimum: then half of all searches are kept for kicks.
-fn passes_within(course: &Course, left: u32, nurses: u32) -> u64
+/// The passes over all nurses that a fade makes, and in how many of them each nurse may be searched once,
+/// since mostly she can gain little.
+#[derive(Clone, Copy)]
+struct Passes {
+    all: u64,
+    per_search: u64,
+}
+
+/// The passes of a fade: none for kicks alone. With few searches for each nurse, fewer passes for each of
+/// them are better.
+fn passes_within(course: &Course, left: u32, nurses: u32) -> Passes
     requires some { 0 < nurses }
     requires few { nurses ≤ most_nurses }
-    ensures fadeless { course.now.kicks_alone ≡ true → result ≡ 0 }
-    ensures long { course.now.kicks_alone ≡ false →
-        25 * nurses + spared course.now.searches nurses ≤ left →
-        TakesAllBut (spared course.now.searches nurses) left nurses result }
-    ensures short { course.now.kicks_alone ≡ false →
-        left < 25 * nurses + spared course.now.searches nurses →
-        TakesAllBut (course.now.searches / 2) left nurses result }
+    ensures per_search { result.per_search ≡ passes_each (searches_each course.now.kicks_alone
+        course.now.searches left nurses) }
+    ensures all { result.all ≡ result.per_search * searches_each course.now.kicks_alone
+        course.now.searches left nurses }
+{
+    let each = searches_each(course, left, nurses);
+    let per_search = if each >= SEARCHES_FOR_MORE { 8 } else { 4 };
+    Passes {
+        all: per_search * each as u64,
+        per_search,
+    }
+}
+
+/// From this many searches for each nurse on a fade makes eight passes for each of them.
+const SEARCHES_FOR_MORE: u32 = 200;
+
+/// How many searches for each nurse a fade takes: none for kicks alone, and else as many as are left, up to
+/// the most. It leaves three in a hundred of all searches, or four for each nurse if that is more, for passes
+/// that it makes more if it ends below a minimum.
+fn searches_each(course: &Course, left: u32, nurses: u32) -> u32
+    requires some { 0 < nurses }
+    requires few { nurses ≤ most_nurses }
+    ensures { result ≡ searches_each course.now.kicks_alone course.now.searches left nurses }
 {
     if course.kicks_alone {
         return 0;
     }
-    let spare = (course.searches / 100 * 3).max(10 * nurses);
-    let each = left.saturating_sub(spare) / nurses;
-    if each >= MANY_SEARCHES {
-        return PASSES_PER_SEARCH * each as u64;
-    }
-    PASSES_PER_SEARCH * (left.saturating_sub(course.searches / 2) / nurses) as u64
+    let spare = (course.searches / 100 * 3).max(4 * nurses);
+    (left.saturating_sub(spare) / nurses).min(most_each(nurses))
 }
 
-/// This many searches for each nurse lead from dual prices to the true prices without haste.
-const MANY_SEARCHES: u32 = 25;
+/// How many searches for each nurse a fade takes at most: 20,000 for all nurses, but 150 to 400 for each.
+/// Then fades from other random numbers, and neighbourhoods, help more than a longer fade.
+fn most_each(nurses: u32) -> u32
+    requires { 0 < nurses }
+    ensures { result ≡ most_each nurses }
+{
+    (20_000 / nurses).max(150).min(400)
+}

@@ -2,10 +2,12 @@
 
 ghost use Rattle.std.specs.Prelude.{◌≡◌, ◌<◌, ◌≤◌, ℕ, All, IfOk, length, true};
 ghost use Rattle.roster_instance.specs.Rosters.{fits_case};
+ghost use Rattle.roster_row.specs.Recalled.{RecallsSearchesAt};
 ghost use Rattle.roster_polish.specs.Polished.{FitsPolish};
 
 use roster_case::Held;
 use roster_instance::{Case, Roster};
+use roster_near::NearSpace;
 use roster_offers::{BestFault, SearchesRows};
 use roster_prices::{BoundWorkspace, count_rows};
 use roster_row::LastSearches;
@@ -14,9 +16,10 @@ use std::alloc::Global;
 
 /// What a run writes into: what a run that raises a bound does, with the workspace of its searches; the last
 /// searches; by how much each shift of a day is dearer in a kick; the rows of the kept roster, with its last
-/// searches; and, for a fade, what each slot pays, its rows, and the order of its nurses. Besides the memory
-/// of a bound and of the last searches, twice, that is 265 bytes a day, eight a nurse, and two copies of the
-/// rows. It serves one run after another.
+/// searches; for a fade, what each slot pays, its last searches, its rows, and the order of its nurses; what
+/// searches in neighbourhoods do; and the best roster so far, and the dual prices with which fades begin.
+/// Besides the memory of a bound, of the last searches, three times, and of a `NearSpace`, that is 521 bytes
+/// a day, eight a nurse, and three copies of the rows. It serves one run after another.
 pub struct PolishSpace<T: SearchesRows> {
     pub(crate) bounds: BoundWorkspace<T>,
     pub(crate) last: LastSearches,
@@ -24,8 +27,12 @@ pub struct PolishSpace<T: SearchesRows> {
     pub(crate) kept: Roster,
     pub(crate) kept_last: LastSearches,
     pub(crate) fade_prices: DualPrices,
+    pub(crate) fade_last: LastSearches,
     pub(crate) faded: Roster,
     pub(crate) order: Vec<usize>,
+    pub(crate) near: NearSpace,
+    pub(crate) best: Roster,
+    pub(crate) first_prices: DualPrices,
 }
 
 // Written by hand, so that a function that drops it has one call to prove.
@@ -38,15 +45,19 @@ impl<T: SearchesRows> Drop for PolishSpace<T> {
             kept: _,
             kept_last: _,
             fade_prices: _,
+            fade_last: _,
             faded: _,
             order: _,
+            near: _,
+            best: _,
+            first_prices: _,
         } = self;
     }
 }
 
 impl<T: SearchesRows> PolishSpace<T> {
-    /// The memory for runs from rosters of a case, of which one is given, by at most twenty allocations and
-    /// two for each nurse.
+    /// The memory for runs from rosters of a case, of which one is given, by at most 62 allocations and three
+    /// for each nurse.
     ///
     /// # Errors
     ///
@@ -66,8 +77,12 @@ impl<T: SearchesRows> PolishSpace<T> {
             kept: roster.copy(alloc)?,
             kept_last: LastSearches::for_case(alloc, case)?,
             fade_prices: DualPrices::even(alloc, case, 0)?,
+            fade_last: LastSearches::for_case(alloc, case)?,
             faded: roster.copy(alloc)?,
             order: vec![in alloc; 0; case.nurses()]?,
+            near: NearSpace::for_case(alloc, case)?,
+            best: roster.copy(alloc)?,
+            first_prices: DualPrices::even(alloc, case, 0)?,
         })
     }
 
@@ -87,10 +102,24 @@ impl<T: SearchesRows> PolishSpace<T> {
     pub(crate) fn keep(&mut self, held: &Held)
         requires { FitsPolish held.now.case self.old }
         ensures kept { self.new.kept ≡ held.now.roster }
+        ensures best { self.new.best ≡ self.old.best }
         ensures fits { FitsPolish held.now.case self.new }
     {
         self.kept.put_rows(held.roster());
         self.kept_last.put(&self.last);
+    }
+
+    /// Lets slots pay the dual prices with which fades begin.
+    pub(crate) fn restore_prices(&mut self, case: &Case)
+        requires { FitsPolish case.now self.old }
+        ensures kept { self.new.kept ≡ self.old.kept }
+        ensures faded { self.new.faded ≡ self.old.faded }
+        ensures best { self.new.best ≡ self.old.best }
+        ensures recalls { self.new.fade_last ≡ self.old.fade_last }
+        ensures fits { FitsPolish case.now self.new }
+    {
+        case.keeps_limits();
+        self.bounds.dual_prices.copy(&self.first_prices);
     }
 
     /// Begins a fade from a roster: its rows make the cover, the nurses are in their order, and no search is
@@ -99,13 +128,15 @@ impl<T: SearchesRows> PolishSpace<T> {
         requires given { fits_case case.now given.now ≡ true }
         requires fits { FitsPolish case.now self.old }
         ensures kept { self.new.kept ≡ self.old.kept }
+        ensures best { self.new.best ≡ self.old.best }
         ensures faded { self.new.faded ≡ given.now }
+        ensures recalls { (scale : ℕ) → RecallsSearchesAt case.now scale self.new.fade_last }
         ensures fits { FitsPolish case.now self.new }
     {
         self.faded.put_rows(given);
         count_rows(case, given, &mut self.bounds);
         put_in_order(&mut self.order);
-        self.last.forget();
+        self.fade_last.forget();
     }
 }
 

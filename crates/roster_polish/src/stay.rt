@@ -28,6 +28,7 @@ pub(crate) fn stay_if_no_dearer<T: SearchesRows>(
     requires frozen { FrozenDaysStay held.old.case aim.from space.old.kept held.old.roster }
     ensures tried { StaysNoDearer held.old.case aim.from space.old.kept held.new searches.old
         searches.new space.new meter.old meter.new result }
+    ensures best { space.new.best ≡ space.old.best }
 {
     let PolishSpace { bounds, last, .. } = space;
     let workspace = &mut bounds.rows.workspace;

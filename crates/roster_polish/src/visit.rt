@@ -5,12 +5,11 @@ ghost use Rattle.roster_bundle.specs.Limits.{greatest_u64};
 ghost use Rattle.roster_instance.specs.Meaning.{day_count, nurse_count};
 ghost use Rattle.roster_instance.specs.Rosters.{is_row_of};
 ghost use Rattle.roster_laws.specs.Greatest.{extension_count};
-ghost use Rattle.roster_row.specs.Recalled.{RecallsSearches};
+ghost use Rattle.roster_row.specs.Recalled.{RecallsSearchesAt};
 ghost use Rattle.roster_prices.specs.Days.{AreDualPricedOffers};
 ghost use Rattle.roster_slots.specs.Tables.{slot_prices};
-ghost use Rattle.roster_prices.specs.LowerBounds.{row_by_dual_prices};
 ghost use Rattle.roster_offers.specs.Workspaces.{fits_space};
-ghost use Rattle.roster_polish.specs.Fades.{is_left_out};
+ghost use Rattle.roster_polish.specs.Fades.{best_by_terms, is_left_out};
 
 use arrayvec::ArrayVec;
 use roster_instance::{Choice, choice_on};
@@ -20,7 +19,7 @@ use roster_row::LastSearches;
 use roster_state::Meter;
 
 /// A nurse is left out if her row can be at most this many points cheaper.
-const LEAST_GAIN: u64 = 5;
+const LEAST_GAIN: u64 = 3;
 
 /// A nurse's turn in a pass, and whether she is searched in any case.
 #[derive(Clone, Copy)]
@@ -29,7 +28,7 @@ pub(crate) struct Turn {
     pub(crate) surely: bool,
 }
 
-/// Searches a nurse's best row by what slots pay, in whole points, or leaves her out. `row` is her present
+/// Searches a nurse's best row by what slots pay, or leaves her out. `row` is her present
 /// one. Returns whether she was searched.
 pub(crate) fn visit<T: SearchesRows>(
     terms: &Terms<'_>,
@@ -40,21 +39,18 @@ pub(crate) fn visit<T: SearchesRows>(
     meter: &mut Meter,
 ) -> bool
     requires nurse { turn.nurse < nurse_count terms.now.case.now }
-    requires scale { terms.now.scale ≡ 1 }
     requires row { is_row_of terms.now.case.now row.now ≡ true }
     requires fits { fits_space terms.now.case.now workspace.old ≡ true }
-    requires recalls { RecallsSearches terms.now.case.now last.old }
+    requires recalls { RecallsSearchesAt terms.now.case.now terms.now.scale last.old }
     requires room { meter.old + extension_count terms.now.case.now turn.nurse ≤ greatest_u64 }
-    ensures searched { result ≡ (turn.surely || not (is_left_out terms.now.case.now terms.now.from
-        terms.now.given.now (slot_prices 1 terms.now.dual_prices.now) last.old turn.nurse row.now)) }
-    ensures row { result ≡ true → row_by_dual_prices terms.now.case.now terms.now.from
-        terms.now.given.now 1 (slot_prices 1 terms.now.dual_prices.now) turn.nurse ≡ Some
-        workspace.new.row }
+    ensures searched { result ≡ (turn.surely
+        || not (is_left_out terms.now last.old turn.nurse row.now)) }
+    ensures row { result ≡ true → best_by_terms terms.now turn.nurse ≡ Some workspace.new.row }
     ensures each_day { result ≡ true → meter.old + day_count terms.now.case.now ≤ meter.new }
     ensures spared { result ≡ false → meter.new ≡ meter.old }
     ensures counted { meter.new ≤ meter.old + extension_count terms.now.case.now turn.nurse }
     ensures fits { fits_space terms.now.case.now workspace.new ≡ true }
-    ensures recalls { RecallsSearches terms.now.case.now last.new }
+    ensures recalls { RecallsSearchesAt terms.now.case.now terms.now.scale last.new }
 {
     offer_days(terms, turn.nurse, workspace);
     if !turn.surely && is_left_out(terms, turn.nurse, row, workspace.offers(), last) {
@@ -73,25 +69,25 @@ fn search_offered<T: SearchesRows>(
     meter: &mut Meter,
 )
     requires nurse { nurse < nurse_count terms.now.case.now }
-    requires offers { AreDualPricedOffers terms.now.case.now terms.now.from terms.now.given.now 1
-        (slot_prices 1 terms.now.dual_prices.now) nurse workspace.old.offers }
+    requires offers { AreDualPricedOffers terms.now.case.now terms.now.from terms.now.given.now
+        terms.now.scale (slot_prices terms.now.scale terms.now.dual_prices.now) nurse
+        workspace.old.offers }
     requires fits { fits_space terms.now.case.now workspace.old ≡ true }
-    requires recalls { RecallsSearches terms.now.case.now last.old }
+    requires recalls { RecallsSearchesAt terms.now.case.now terms.now.scale last.old }
     requires room { meter.old + extension_count terms.now.case.now nurse ≤ greatest_u64 }
-    ensures row { row_by_dual_prices terms.now.case.now terms.now.from terms.now.given.now 1
-        (slot_prices 1 terms.now.dual_prices.now) nurse ≡ Some workspace.new.row }
+    ensures row { best_by_terms terms.now nurse ≡ Some workspace.new.row }
     ensures each_day { meter.old + day_count terms.now.case.now ≤ meter.new }
     ensures counted { meter.new ≤ meter.old + extension_count terms.now.case.now nurse }
     ensures fits { fits_space terms.now.case.now workspace.new ≡ true }
-    ensures recalls { RecallsSearches terms.now.case.now last.new }
+    ensures recalls { RecallsSearchesAt terms.now.case.now terms.now.scale last.new }
 {
     terms.case.keeps_limits();
-    let cost = workspace.search_offers(terms.case, nurse, meter);
+    let cost = workspace.search_at(terms.case, nurse, terms.scale, meter);
     last.remember(terms.case, nurse, workspace.offers(), cost);
 }
 
-/// Whether a nurse's row, which her last search found, can be at most five points cheaper by these offers, to
-/// judge by the prices that have changed since that search. A nurse without such a search isn't left out.
+/// Whether a nurse's row, which her last search found, can be at most three points cheaper by these offers,
+/// to judge by the prices that have changed since that search. A nurse without such a search isn't left out.
 fn is_left_out(
     terms: &Terms<'_>,
     nurse: usize,
@@ -101,12 +97,10 @@ fn is_left_out(
 ) -> bool
     requires nurse { nurse < nurse_count terms.now.case.now }
     requires row { is_row_of terms.now.case.now row.now ≡ true }
-    requires offers { AreDualPricedOffers terms.now.case.now terms.now.from terms.now.given.now 1
-        (slot_prices 1 terms.now.dual_prices.now) nurse offers.now }
-    requires scale { terms.now.scale ≡ 1 }
-    requires recalls { RecallsSearches terms.now.case.now last.now }
-    ensures { result ≡ is_left_out terms.now.case.now terms.now.from terms.now.given.now
-        (slot_prices 1 terms.now.dual_prices.now) last.now nurse row.now }
+    requires offers { AreDualPricedOffers terms.now.case.now terms.now.from terms.now.given.now
+        terms.now.scale (slot_prices terms.now.scale terms.now.dual_prices.now) nurse offers.now }
+    requires recalls { RecallsSearchesAt terms.now.case.now terms.now.scale last.now }
+    ensures { result ≡ is_left_out terms.now last.now nurse row.now }
 {
     let case = terms.case;
     case.keeps_limits();
@@ -120,5 +114,5 @@ fn is_left_out(
         let here = offers[day as usize].as_slice();
         gain += last.most_gain(case, nurse, day, present, here);
     }
-    last.has_search(nurse) && gain <= LEAST_GAIN
+    last.has_search(nurse) && gain <= LEAST_GAIN * terms.scale as u64
 }

@@ -3,3 +3,4 @@ pub mod OwnRows
 pub mod PricedRows
 pub mod RowBounds
 pub mod NodeRows
+pub mod WindowRows

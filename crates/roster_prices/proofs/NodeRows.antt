@@ -17,7 +17,7 @@ use Rattle.roster_prices.proofs.PricedRows.{can_search_priced, cost_is, row_is, 
 use Rattle.roster_prices.proofs.RowBounds.{named_row, requests_within}
 
 module _ (c : Meaning) (scale : ℕ) (w : SlotPrices) (node : List Decision) where
-  low_in : (n : ℕ) → c.keep ≤ most_keep → (d : ℕ) (x : Choice) → price_in c scale w node n d x ≤ most_price_at scale
+  pub low_in : (n : ℕ) → c.keep ≤ most_keep → (d : ℕ) (x : Choice) → price_in c scale w node n d x ≤ most_price_at scale
   low_in n few d x = go (is_against node n d x)
     where
       go : (b : Bool) → (if b then against_price scale + price_by c scale w n d x else price_by c scale w n d x) ≤ most_price_at scale

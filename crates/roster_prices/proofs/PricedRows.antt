@@ -98,6 +98,12 @@ module _ (c : Meaning) (from : ℕ) (given : Rows) (scale : ℕ) (price : ℕ �
         All-get_or (λ x. is_choice_of c x ≡ true) own.row d Off (omega (arith, within, days_of_own))
         (AllPass-from_list_all (is_choice_of c) own.row (and_parts (length own.row == day_count c) (list_all (is_choice_of c) own.row) own.fits).1)
 
+    -- it may follow the one before
+    pub goes_on : (d : ℕ) → d < day_count c → (can d (choice_on own.row d) && not (breaks_succession c n (days_of own.row) d)) ≡ true
+    goes_on d within =
+        let all : offered_row_by c n can own.row (length own.row) ≡ true = sym (kept own.row days_of_own) ∙ own.works in
+        all_elim (length own.row) (λ k. can k (choice_on own.row k) && not (breaks_succession c n (days_of own.row) k)) all d (omega (arith, within, days_of_own))
+
     can_do_own : (d : ℕ) → d < day_count c → can d (choice_on own.row d) ≡ true
     can_do_own d within =
         let all : offered_row_by c n can own.row (length own.row) ≡ true = sym (kept own.row days_of_own) ∙ own.works in
@@ -108,7 +114,7 @@ module _ (c : Meaning) (from : ℕ) (given : Rows) (scale : ℕ) (price : ℕ �
         let member = member_is_kept (can d) (all_choices c) (choice_on own.row d) (choice_is_member c (choice_on own.row d) (own_of_case d within)) (can_do_own d within) in
         omega (arith, member.1, length-map (filter (can d) (all_choices c)) (offer_at price d))
 
-    day_offers : c.keep ≤ most_keep → (d : ℕ) → d < day_count c → AreDayOffersAt c n scale (shift_offers c from given price n d)
+    pub day_offers : c.keep ≤ most_keep → (d : ℕ) → d < day_count c → AreDayOffersAt c n scale (shift_offers c from given price n d)
     day_offers few d within = record {
       of_case = by_shift_all (IsOfferAt c scale) (priced_offers c from given price n d) (offers_of_case few d);
       some = by_shift_some (priced_offers c from given price n d) (offers_some d within);

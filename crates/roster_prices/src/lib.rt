@@ -6,6 +6,8 @@
 //! follow the cover in a fade in `specs/Fading.antt`. `row_bounds` promises what all nurses cost at least,
 //! and `offer_days` those offers. Between rounds dual prices move by the pooled rows (`moving`, `pooled`);
 //! only their ranges are proved. So `improve_dual_prices` gives dual prices alone, and no lower bound.
+//! `window_bound` and `list_window` search and list a nurse's rows within a window of days
+//! (`specs/Windows.antt`).
 #![tactic(auto)]
 
 mod bounds;
@@ -15,6 +17,8 @@ mod laws;
 mod moving;
 mod offers;
 mod pooled;
+mod window;
+mod windowed;
 mod workspace;
 
 pub use bounds::{offer_days, row_bounds};
@@ -27,4 +31,6 @@ pub use laws::rows_exist;
 pub use moving::{improve_dual_prices, move_by_pooled_rows, prepare_next};
 pub use offers::{Base, Terms};
 pub use pooled::value_by_pooled_rows;
+pub use window::{NearBase, Window, WindowTerms};
+pub use windowed::{list_window, window_bound};
 pub use workspace::{BoundWorkspace, RowSpace};

@@ -220,7 +220,7 @@ pub(crate) const SEARCH_COUNT: &str =
 
 pub(crate) const SEED_NUMBER: &str = "The seed of the run's random numbers, 0 to 4294967295";
 
-pub(crate) const KICKS_ALONE: &str = "Make only kicks, and no fade";
+pub(crate) const KICKS_ALONE: &str = "Make only kicks, no fade, and search no neighbourhoods";
 
 pub(crate) const POLISH: &str = "Make the rosters much cheaper, and write them";
 
@@ -228,37 +228,46 @@ pub(crate) const POLISH_HELP: &str =
     "A roster is settled if no nurse has a cheaper row while the others keep theirs.
 'roster improve' ends there, if its rounds are enough. This command begins with
 such a descent too: rounds until the roster is settled. Then it makes a fade,
-unless --kicks is given, and kicks, as long as searches are left.
+and searches neighbourhoods as long as searches are left. With --kicks it makes
+kicks in place of both.
   fade  Pass after pass, each nurse gets the best row by prices that go from the
         dual prices of 'roster bound' to what cover really costs. Most rows
         change.
+  neighbourhood
+        Some nurses are free, on all days or within a few weeks, and get the
+        best rows together, if there are cheaper ones.
   kick  One to three nurses get the best rows by other prices, on the days of
         one to four weeks.
-A fade and each kick end with another descent. If the roster settles, keeps the
-hard rules and is no dearer than before, it stays; otherwise, and also if no
-search is left, the one from before comes back.
+Each of these ends with another descent. If the roster settles, keeps the hard
+rules and is no dearer than before, it stays; otherwise, and also if no search
+is left, the one from before comes back.
 
 The hard rules are checked first, as for 'roster cost', and the rosters written
 keep them too. A log goes to standard error, each line as soon as it is known:
   start 3150     what the roster costs before the run
   fade 770       the fade stayed: the roster costs 770 now. A fade that doesn't
                  stay has no line.
-  kick 85 765    kick 85 made it cheaper: it costs 765 now. A kick that doesn't
+  kick 85 765    try 85 after the fade made it cheaper: it costs 765 now. A try
+                 is a neighbourhood, another fade, or a kick. One that doesn't
                  make it cheaper has no line.
   settled 765    what the rosters written cost. They are settled.
 The last line begins with 'stopped' instead of 'settled' if the first descent
-was not at its end after 1,000,000 rounds, and neither the fade nor a kick
-stayed.
+was not at its end after 1,000,000 rounds, and neither the fade nor what came
+after it stayed.
 
 A search is one for the best row of a nurse. The first descent makes as many as
 it needs, in up to 1,000,000 rounds. After it the run makes at most as many as
---searches allows: up to a third of them to find dual prices; of the others
-nearly all for the fade, if it needs that many, or about a quarter if they are
-too few for 25 for each nurse; and what is left for kicks. With --kicks it is up
-to a half to find dual prices, and the others for kicks. With --searches 0 there
-is neither a fade nor a kick. The same texts, --searches, --seed, --kicks and
---from give the same rosters. It pays to try several seeds. A run that is ended
-by Ctrl-C leaves no rosters, since they are written at its end.
+--searches allows: up to a quarter of them to find dual prices; then for the
+fade, up to 400 for each nurse, or fewer if there are more than 50 nurses, but
+not below 150; and the others for neighbourhoods. Once these have brought
+nothing for long, the roster is faded again, the neighbourhoods of that roster
+are searched, and so on, and the cheapest roster stays. The last three tenths go
+to neighbourhoods of that one. What is done there besides searches counts as the
+searches that it is worth. With --kicks it is up to a half to find dual prices,
+and the others for kicks. With --searches 0 there is nothing of all this. The
+same texts, --searches, --seed, --kicks and --from give the same rosters. It
+pays to try several seeds. A run that is ended by Ctrl-C leaves no rosters,
+since they are written at its end.
 
 With --from V, weeks 0 to V - 1 are frozen: each nurse's days in them stay as
 they are, and so do those of the section FIXED. All weeks are read and count
@@ -317,11 +326,11 @@ That doesn't mean that there is none. More searches or another seed may find
 one.
 
 A search is one for the best row of a nurse. To find the roster, and then for
-the fade and the kicks, the run makes at most as many as --searches allows. The
-first descent makes as many as it needs, in up to 1,000,000 rounds. The same
-texts, --searches, --seed and --from give the same rosters. It pays to try
-several seeds. A run that is ended by Ctrl-C leaves no rosters, since they are
-written at its end.
+the fade and the neighbourhoods, the run makes at most as many as --searches
+allows. The first descent makes as many as it needs, in up to 1,000,000 rounds.
+The same texts, --searches, --seed and --from give the same rosters. It pays to
+try several seeds. A run that is ended by Ctrl-C leaves no rosters, since they
+are written at its end.
 
 With --from V, weeks 0 to V - 1 are frozen: each nurse's days in them stay as
 they are, and so do those of the section FIXED. All weeks are read and count

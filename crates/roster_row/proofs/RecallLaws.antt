@@ -28,25 +28,26 @@ use Rattle.roster_offers.specs.declared.offer.Offer.{Offer}
 use Rattle.roster_offers.specs.Cheapest.{Priced}
 use Rattle.roster_offers.specs.Offers.{best_by_states}
 use Rattle.roster_offers.specs.Rises.{HasRisen}
-use Rattle.roster_offers.specs.Lists.{AreDayOffers, IsOfferOf, best_over, offers_on}
+use Rattle.roster_offers.specs.Lists.{AreDayOffersAt, IsOfferAt, best_over, offers_on}
+use Rattle.roster_offers.proofs.AtOne.{best_over_one}
 use Rattle.roster_offers.proofs.Best.{best_some, is_best, penalty_is}
 use Rattle.roster_offers.proofs.RiseLaws.{cost_has_risen}
 use Rattle.roster_row.specs.declared.last.LastSearches.{LastSearches}
-use Rattle.roster_row.specs.Recalled.{ArePrices, IsDearer, RecallsSearches, IsPriceOf, WasSearched, fits_last, not_offered, price_index, prices_on}
+use Rattle.roster_row.specs.Recalled.{ArePrices, IsDearer, RecallsSearchesAt, IsPriceOf, WasSearchedAt, fits_last, not_offered, price_index, prices_on}
 use Rattle.roster_row.specs.Searches.{AreShiftOffers}
 use Rattle.roster_row.proofs.OffersLaws.{best_is}
 
 -- ---- the prices of a day
 
-index_fits : (c : Meaning) → shift_count c ≤ most_shifts → (x : Offer) → IsOfferOf c x → price_index (shift_of x.choice) < 1 + most_shifts
+index_fits : {scale : ℕ} (c : Meaning) → shift_count c ≤ most_shifts → (x : Offer) → IsOfferAt c scale x → price_index (shift_of x.choice) < 1 + most_shifts
 index_fits c few x of_case = go x.choice of_case.choice
   where
     go : (choice : Choice) → is_choice_of c choice ≡ true → price_index (shift_of choice) < 1 + most_shifts
     go Off is = omega arith
     go (Work s k) is = omega (arith, few, ltb-true s.0 (shift_count c) (and_parts (nat_lt s.0 (shift_count c)) (nat_lt k.0 (skill_count c)) is).0)
 
-pub indices_fit : (c : Meaning) (n : ℕ) (offers : List Offer) → shift_count c ≤ most_shifts → AreDayOffers c n offers → All (λ x. price_index (shift_of x.choice) < 1 + most_shifts) offers
-indices_fit c n offers few are = All-weaker (IsOfferOf c) (λ x. price_index (shift_of x.choice) < 1 + most_shifts) (index_fits c few) offers are.of_case
+pub indices_fit : {scale : ℕ} (c : Meaning) (n : ℕ) (offers : List Offer) → shift_count c ≤ most_shifts → AreDayOffersAt c n scale offers → All (λ x. price_index (shift_of x.choice) < 1 + most_shifts) offers
+indices_fit {scale} c n offers few are = All-weaker (IsOfferAt c scale) (λ x. price_index (shift_of x.choice) < 1 + most_shifts) (index_fits c few) offers are.of_case
 
 -- an offer's price is put at its index
 pub price_put : (offers : List Offer) (prices : List ℕ) (i at : ℕ) (d : Offer) → i < length offers → at < length prices → at ≡ price_index (shift_of (slice_index_or offers i d).choice) → ArePrices offers prices → ArePrices offers (slice_set prices at (slice_index_or offers i d).price)
@@ -174,14 +175,14 @@ module _ (c : Meaning) (last : LastSearches) (n : ℕ) (offers : ℕ → List Of
 
 module _ (c : Meaning) (r : Rows) (fits : fits_case c r ≡ true) (keeps : keeps_hard c r ≡ true) (n : ℕ) (inside : n < nurse_count c) where
   -- the best row costs at least what the last one did, plus all that has risen, less all that has fallen
-  at_least : (last : LastSearches) (cost rise fall : ℕ) (offers : ℕ → List Offer) → WasSearched c last n cost → HaveChanged c last n offers (day_count c) rise fall → (now : ℕ) (row : List Offer) → best_over c n offers ≡ Some (now, row) → cost + rise ≤ now + fall
+  at_least : (last : LastSearches) (cost rise fall : ℕ) (offers : ℕ → List Offer) → WasSearchedAt c 1 last n cost → HaveChanged c last n offers (day_count c) rise fall → (now : ℕ) (row : List Offer) → best_over c n offers ≡ Some (now, row) → cost + rise ≤ now + fall
   at_least last cost rise fall offers was changed now row is =
       let each : (d : ℕ) → d < day_count c → All (HasRisen (changed.rises d) (changed.falls d) (was.offers d)) (offers d) = λ d low. All-weaker (IsDearer (prices_on c last n d) (changed.rises d) (changed.falls d)) (HasRisen (changed.rises d) (changed.falls d) (was.offers d)) (has_risen (was.offers d) (prices_on c last n d) (changed.rises d) (changed.falls d) (was.prices d low)) (offers d) (changed.each d low) in
       let risen = cost_has_risen c n was.offers offers changed.rises changed.falls each now row is in
-      let low : cost + sum_below (day_count c) changed.rises ≤ now + sum_below (day_count c) changed.falls = subst (λ (o : Priced (List Offer)). IsSomeAnd o (λ best. best.0 + sum_below (day_count c) changed.rises ≤ now + sum_below (day_count c) changed.falls)) was.found risen in
+      let low : cost + sum_below (day_count c) changed.rises ≤ now + sum_below (day_count c) changed.falls = subst (λ (o : Priced (List Offer)). IsSomeAnd o (λ best. best.0 + sum_below (day_count c) changed.rises ≤ now + sum_below (day_count c) changed.falls)) (sym (best_over_one c n was.offers) ∙ was.found) risen in
       omega (arith, low, changed.rise_is, changed.fall_is)
 
-  pub none_cheaper : (last : LastSearches) (cost rise fall : ℕ) (offers : List (ArrayVec Offer)) → WasSearched c last n cost → HaveChanged c last n (offers_on offers) (day_count c) rise fall → penalty c r + fall ≤ rest_of c r n + due c n [] + cost + rise → (from : ℕ) → AreShiftOffers c from r n offers → step c (best_row c from) r n ≡ r
+  pub none_cheaper : (last : LastSearches) (cost rise fall : ℕ) (offers : List (ArrayVec Offer)) → WasSearchedAt c 1 last n cost → HaveChanged c last n (offers_on offers) (day_count c) rise fall → penalty c r + fall ≤ rest_of c r n + due c n [] + cost + rise → (from : ℕ) → AreShiftOffers c from r n offers → step c (best_row c from) r n ≡ r
   none_cheaper last cost rise fall offers was changed enough from are = go (best_by_states c from r n) refl (best_some c from r fits keeps n inside)
     where
       go : (o : Priced (List Offer)) → best_by_states c from r n ≡ o → IsSome o → step c (best_row c from) r n ≡ r
@@ -232,15 +233,15 @@ module _ (c : Meaning) (n : ℕ) (inside : n < nurse_count c) where
     | inr more ↦ inr (omega (arith, mul-le (n + 1) (day_count c) m (day_count c) (omega (arith, more, differs)) (omega arith)))
   ]
 
-  pub recalls_more : (old new : LastSearches) (cost : ℕ) → RecallsSearches c old → length new.prices.items ≡ length old.prices.items → new.costs.items ≡ slice_set old.costs.items n (Some cost)
-      → ((i : ℕ) → Outside c n i → slice_index_or new.prices.items i [] ≡ slice_index_or old.prices.items i []) → WasSearched c new n cost → RecallsSearches c new
-  recalls_more old new cost recalls lengths costs others here = record {
+  pub recalls_more : (scale : ℕ) (old new : LastSearches) (cost : ℕ) → RecallsSearchesAt c scale old → length new.prices.items ≡ length old.prices.items → new.costs.items ≡ slice_set old.costs.items n (Some cost)
+      → ((i : ℕ) → Outside c n i → slice_index_or new.prices.items i [] ≡ slice_index_or old.prices.items i []) → WasSearchedAt c scale new n cost → RecallsSearchesAt c scale new
+  recalls_more scale old new cost recalls lengths costs others here = record {
     nurses = ap length costs ∙ length-set old.costs.items n (Some cost) ∙ recalls.nurses;
     days = lengths ∙ recalls.days;
-    searched = λ m within. subst (λ (o : Option ℕ). IfSome o (WasSearched c new m)) (sym (ap (λ xs. slice_index_or xs m None) costs)) (go m within (cases_eq m n));
+    searched = λ m within. subst (λ (o : Option ℕ). IfSome o (WasSearchedAt c scale new m)) (sym (ap (λ xs. slice_index_or xs m None) costs)) (go m within (cases_eq m n));
   }
     where
-      kept : (m : ℕ) → m ≢ n → (o : Option ℕ) → IfSome o (WasSearched c old m) → IfSome o (WasSearched c new m)
+      kept : (m : ℕ) → m ≢ n → (o : Option ℕ) → IfSome o (WasSearchedAt c scale old m) → IfSome o (WasSearchedAt c scale new m)
       kept m differs None was = was
       kept m differs (Some k) was = record {
         offers = was.offers;
@@ -249,11 +250,11 @@ module _ (c : Meaning) (n : ℕ) (inside : n < nurse_count c) where
         found = was.found;
       }
 
-      go : (m : ℕ) → m < nurse_count c → (m ≡ n) ⊎ (m ≢ n) → IfSome (slice_index_or (slice_set old.costs.items n (Some cost)) m None) (WasSearched c new m)
+      go : (m : ℕ) → m < nurse_count c → (m ≡ n) ⊎ (m ≢ n) → IfSome (slice_index_or (slice_set old.costs.items n (Some cost)) m None) (WasSearchedAt c scale new m)
       go m within (inl same) =
-          subst (λ (o : Option ℕ). IfSome o (WasSearched c new m)) (sym (get_or-set_at old.costs.items n m (Some cost) None same (omega (arith, inside, recalls.nurses)))) (subst (λ k. WasSearched c new k cost) (sym same) here)
+          subst (λ (o : Option ℕ). IfSome o (WasSearchedAt c scale new m)) (sym (get_or-set_at old.costs.items n m (Some cost) None same (omega (arith, inside, recalls.nurses)))) (subst (λ k. WasSearchedAt c scale new k cost) (sym same) here)
       go m within (inr differs) =
-          subst (λ (o : Option ℕ). IfSome o (WasSearched c new m)) (sym (get_or-set_other old.costs.items n m (Some cost) None differs)) (kept m differs (slice_index_or old.costs.items m None) (recalls.searched m within))
+          subst (λ (o : Option ℕ). IfSome o (WasSearchedAt c scale new m)) (sym (get_or-set_other old.costs.items n m (Some cost) None differs)) (kept m differs (slice_index_or old.costs.items m None) (recalls.searched m within))
 
 -- ---- the offers of a day
 
@@ -270,12 +271,15 @@ dearer_more prices offers index rise fall rise_now fall_now less more so_far her
 
 -- ---- nothing is recorded
 
-pub forgotten : (c : Meaning) (old new : LastSearches) → fits_last c old ≡ true → new.prices ≡ old.prices → new.costs.items ≡ replicate (length old.costs.items) None → RecallsSearches c new
-forgotten c old new fits prices costs =
-    let both = and_parts (length old.costs.items == nurse_count c) (length old.prices.items == nurse_count c * day_count c) fits in
-    let nurses : length old.costs.items ≡ nurse_count c = eqb-true (length old.costs.items) (nurse_count c) both.0 in
+pub forgets : (c : Meaning) (scale : ℕ) (old new : LastSearches) → length old.costs.items ≡ nurse_count c → length old.prices.items ≡ nurse_count c * day_count c → new.prices ≡ old.prices → new.costs.items ≡ replicate (length old.costs.items) None → RecallsSearchesAt c scale new
+forgets c scale old new nurses days prices costs =
     record {
       nurses = ap length costs ∙ length-replicate (length old.costs.items) None ∙ nurses;
-      days = ap (λ v. length v.items) prices ∙ eqb-true (length old.prices.items) (nurse_count c * day_count c) both.1;
-      searched = λ n inside. subst (λ (o : Option ℕ). IfSome o (WasSearched c new n)) (sym (ap (λ xs. slice_index_or xs n None) costs ∙ get_or-replicate (length old.costs.items) n None None (omega (arith, inside, nurses)))) tt;
+      days = ap (λ v. length v.items) prices ∙ days;
+      searched = λ n inside. subst (λ (o : Option ℕ). IfSome o (WasSearchedAt c scale new n)) (sym (ap (λ xs. slice_index_or xs n None) costs ∙ get_or-replicate (length old.costs.items) n None None (omega (arith, inside, nurses)))) tt;
     }
+
+pub forgotten : (c : Meaning) (old new : LastSearches) → fits_last c old ≡ true → new.prices ≡ old.prices → new.costs.items ≡ replicate (length old.costs.items) None → RecallsSearchesAt c 1 new
+forgotten c old new fits prices costs =
+    let both = and_parts (length old.costs.items == nurse_count c) (length old.prices.items == nurse_count c * day_count c) fits in
+    forgets c 1 old new (eqb-true (length old.costs.items) (nurse_count c) both.0) (eqb-true (length old.prices.items) (nurse_count c * day_count c) both.1) prices costs

@@ -5,8 +5,9 @@ use Rattle.roster_instance.specs.declared.choice.Shift.{Shift}
 use Rattle.roster_instance.specs.Choices.{shift_of}
 use Rattle.roster_instance.specs.Limits.{most_shifts}
 use Rattle.roster_instance.specs.Meaning.{Meaning, day_count, nurse_count}
+use Rattle.roster_instance.specs.Rosters.{Row}
 use Rattle.roster_offers.specs.declared.offer.Offer.{Offer}
-use Rattle.roster_offers.specs.Lists.{best_over}
+use Rattle.roster_offers.specs.Lists.{IsFound, best_over_at}
 use Rattle.roster_row.specs.declared.last.LastSearches.{LastSearches}
 
 -- the price of what isn't offered
@@ -54,21 +55,32 @@ most_gain prices present offers = fold (λ most offer. max most (gain_over price
 abbrev pub prices_on : Meaning → LastSearches → (n d : ℕ) → List ℕ
 prices_on c last n d = slice_index_or last.prices.items (n * day_count c + d) []
 
--- a search for the nurse, over offers at these prices, found a row at this cost
-pub record WasSearched (c : Meaning) (last : LastSearches) (n cost : ℕ) : Type 0 where
+-- a search for the nurse at a scale, over offers at these prices, found a row at this cost
+pub record WasSearchedAt (c : Meaning) (scale : ℕ) (last : LastSearches) (n cost : ℕ) : Type 0 where
   pub offers : ℕ → List Offer
   pub row : List Offer
   pub prices : (d : ℕ) → d < day_count c → ArePrices (offers d) (prices_on c last n d)
-  pub found : best_over c n offers ≡ Some (cost, row)
+  pub found : best_over_at c n scale offers ≡ Some (cost, row)
 
 -- the capacity is that of the case: a cost for each nurse, and prices for each nurse and day
 abbrev pub fits_last : Meaning → LastSearches → Bool
 fits_last c last =
     (length last.costs.items == nurse_count c) && (length last.prices.items == nurse_count c * day_count c)
 
--- it has the capacity for the case, and each recorded cost is that of a search
-pub record RecallsSearches (c : Meaning) (last : LastSearches) : Type 0 where
+-- it has the capacity for the case, and each recorded cost is that of a search at this scale
+pub record RecallsSearchesAt (c : Meaning) (scale : ℕ) (last : LastSearches) : Type 0 where
   pub nurses : length last.costs.items ≡ nurse_count c
   pub days : length last.prices.items ≡ nurse_count c * day_count c
   pub searched : (n : ℕ) → n < nurse_count c
-      → IfSome (slice_index_or last.costs.items n None) (WasSearched c last n)
+      → IfSome (slice_index_or last.costs.items n None) (WasSearchedAt c scale last n)
+
+-- at whatever scale searches are recorded, a search for this nurse that found a row at this cost is, too
+abbrev pub AreRemembered : Meaning → (n : ℕ) → (ℕ → List Offer) → (cost : ℕ)
+    → (old new : LastSearches) → Type 0
+AreRemembered c n offers cost old new =
+    (scale : ℕ) → RecallsSearchesAt c scale old → (row : Row)
+    → IsFound (best_over_at c n scale offers) cost row → RecallsSearchesAt c scale new
+
+-- the same in whole points
+abbrev pub RecallsSearches : Meaning → LastSearches → Type 0
+RecallsSearches c = RecallsSearchesAt c 1

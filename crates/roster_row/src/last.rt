@@ -1,14 +1,13 @@
 //! What the last search for each nurse says of the next one.
 
-ghost use Rattle.std.specs.Prelude.{◌≡◌, ◌+◌, ◌<◌, ◌≤◌, ◌^◌, ℕ, true, All, IfOk, IfSome, None, is_some, length, replicate, slice_index_or};
+ghost use Rattle.std.specs.Prelude.{◌≡◌, ◌+◌, ◌*◌, ◌<◌, ◌≤◌, ◌^◌, ℕ, true, All, IfOk, IfSome, None, is_some, length, replicate, slice_index_or};
 ghost use Rattle.roster_instance.specs.Choices.{shift_of};
 ghost use Rattle.roster_instance.specs.Limits.{most_shifts};
 ghost use Rattle.roster_instance.specs.Meaning.{Meaning, day_count, nurse_count};
-ghost use Rattle.roster_instance.specs.Rosters.{Row};
 ghost use Rattle.roster_rules.specs.AllowedRows.{best_row};
 ghost use Rattle.roster_rules.specs.Improver.{step};
-ghost use Rattle.roster_offers.specs.Lists.{AreOffers, IsFound, best_over, offers_on};
-ghost use Rattle.roster_row.specs.Recalled.{ArePrices, IsDearer, RecallsSearches, fits_last, gain_over, most_gain, price_index, prices_on};
+ghost use Rattle.roster_offers.specs.Lists.{AreOffersAt, offers_on};
+ghost use Rattle.roster_row.specs.Recalled.{ArePrices, AreRemembered, IsDearer, RecallsSearches, RecallsSearchesAt, fits_last, gain_over, most_gain, price_index, prices_on};
 ghost use Rattle.roster_row.specs.Searches.{AreOffersOf, AreShiftOffers};
 
 use arrayvec::ArrayVec;
@@ -23,8 +22,9 @@ const NOT_OFFERED: u32 = u32::MAX;
 
 /// What the last search for each nurse went over and found: the price of each shift on each day, and the cost
 /// of the best row. From this it follows for some nurses that no row has become cheaper than the present one,
-/// so that the next search can be skipped. It takes 36 bytes for each nurse and day, and 8 for each nurse: at
-/// most 5,244,800 bytes. One value serves all nurses of a case, one after another.
+/// so that the next search can be skipped. All searches of one value are at one scale. It takes 36 bytes for
+/// each nurse and day, and 8 for each nurse: at most 5,244,800 bytes. One value serves all nurses of a case,
+/// one after another.
 pub struct LastSearches {
     /// For each nurse and day the price of a day off, and the price of each shift.
     pub(crate) prices: Vec<[u32; MOST_OFFERS]>,
@@ -142,7 +142,7 @@ impl LastSearches {
     ) -> u64
         requires nurse { nurse < nurse_count case.now }
         requires day { day < day_count case.now }
-        requires recalls { RecallsSearches case.now self.now }
+        requires days { length self.now.prices.items ≡ nurse_count case.now * day_count case.now }
         requires present { price_index (shift_of present.choice) < 1 + most_shifts }
         requires indices { All (λ offer. price_index (shift_of offer.choice) < 1 + most_shifts)
             offers.now }
@@ -159,7 +159,8 @@ impl LastSearches {
         most
     }
 
-    /// Records the prices and the cost of a search for a nurse, instead of those of an earlier one.
+    /// Records the prices and the cost of a search for a nurse, instead of those of an earlier one. They are
+    /// in the parts of a point of the search's scale.
     pub fn remember(
         &mut self,
         case: &Case,
@@ -168,12 +169,11 @@ impl LastSearches {
         cost: u32,
     )
         requires nurse { nurse < nurse_count case.now }
-        requires recalls { RecallsSearches case.now self.old }
+        requires recalls { (scale : ℕ) × RecallsSearchesAt case.now scale self.old }
         requires days { length offers.now ≡ day_count case.now }
-        requires offers { AreOffers case.now nurse offers.now }
-        requires found { (row : Row) × IsFound (best_over case.now nurse (offers_on offers.now))
-            cost row }
-        ensures recalls { RecallsSearches case.now self.new }
+        requires offers { (scale : ℕ) × AreOffersAt case.now nurse scale offers.now }
+        ensures recalls { AreRemembered case.now nurse (offers_on offers.now) cost self.old
+            self.new }
     {
         case.keeps_limits();
         let days = offers.len();

@@ -47,7 +47,7 @@ complete -c roster -n '__roster_is bound' -s h -l help -d 'Print help'
 complete -c roster -n '__roster_is polish' -F
 complete -c roster -n '__roster_is polish' -l searches -x -d 'Apart from the first descent the run makes at most N searches, 0 to 10000000; if it is not given, 400 for each nurse, and 20000 at least'
 complete -c roster -n '__roster_is polish' -l seed -x -d 'The seed of the run\'s random numbers, 0 to 4294967295 [default: 1]'
-complete -c roster -n '__roster_is polish' -l kicks -d 'Make only kicks, and no fade'
+complete -c roster -n '__roster_is polish' -l kicks -d 'Make only kicks, no fade, and search no neighbourhoods'
 complete -c roster -n '__roster_is polish' -l from -x -d 'The first week that may change, 0 to 52: the weeks before it stay as they are [default: 0]'
 complete -c roster -n '__roster_is polish' -l keep -x -d 'Each day of a nurse that changes from the given roster costs N points more, 0 to 100 [default: 0]'
 complete -c roster -n '__roster_is polish' -s h -l help -d 'Print help'

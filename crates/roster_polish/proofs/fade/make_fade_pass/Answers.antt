@@ -1,4 +1,4 @@
-use Rattle.std.proofs.Common.{◌≡◌, ◌∙◌, ◌+◌, ◌-◌, ◌*◌, ◌<◌, ◌≤◌, ◌⊎◌, ℕ, Bool, false, true, suc, zero, ap, arith, get_or, inl, inr, length, refl, subst, sym}
+use Rattle.std.proofs.Common.{◌≡◌, ◌∙◌, ◌+◌, ◌-◌, ◌*◌, ◌<◌, ◌≤◌, ◌⊎◌, ℕ, Bool, false, true, ap, arith, get_or, inl, inr, length, refl, subst, sym}
 use Rattle.std.proofs.lemmas.Bool.{cases_eq, eq-eqb}
 use Rattle.std.proofs.lemmas.List.Elements.{All-get_or}
 use Rattle.roster_instance.specs.Counting.{one_if}
@@ -6,7 +6,7 @@ use Rattle.roster_instance.specs.Meaning.{Meaning, day_count, nurse_count}
 use Rattle.roster_laws.specs.Greatest.{extension_count}
 use Rattle.roster_polish.specs.Fades.{AreMade}
 use Rattle.roster_polish.specs.Settled.{Spends}
-use Rattle.roster_polish.proofs.Fading.{made_both, made_one}
+use Rattle.roster_polish.proofs.Fading.{made_both, made_one, some_left}
 use Rattle.roster_polish.proofs.Steps.{rest_fits_meter, search_fits_meter, spent, spent_both, spent_none}
 use Rattle.roster_polish.proofs.fade.make_fade_pass.Goals as goal
 use Rattle.roster_polish.proofs.fade.make_fade_pass.Goals.{After-index-nurse}
@@ -20,10 +20,6 @@ inside g c =
     let within : l.position < length order = omega (arith, all, c.loop-position-test.true, l.invariant.faded.fits.count) in
     let one : get_or order l.position c.index-nurse.result.now < nurse_count k = All-get_or (λ n. n < nurse_count k) order l.position c.index-nurse.result.now within l.invariant.faded.fits.order in
     omega (arith, one, c.index-nurse.ensures)
-
-some_left : (left : ℕ) → (left ≡ 0 → ⊥) → 0 < left
-some_left zero some = absurd (some refl)
-some_left (suc left) some = omega arith
 
 -- a search, or none
 module _ (c : Meaning) (n meter left new new_left : ℕ) (inside : n < nurse_count c) (some : 0 < left) where
@@ -65,10 +61,12 @@ loop-position-preserved g c =
       fewer = λ later any. fewer any (cases_eq l.position 0);
       faded = record {
         kept = logged.kept ∙ before.kept;
+        best = logged.best ∙ before.best;
         frozen = logged.frozen;
         passes = before.passes;
         made = made_both k c.args.meter.now c.args.kicking.now.searches.left l.meter left c.fade_nurse-searched.new.meter new_left before.made both.0;
         spends = spends;
+        recalls = logged.recalls;
         fits = logged.fits;
       };
     }

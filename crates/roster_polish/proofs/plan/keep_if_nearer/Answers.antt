@@ -13,10 +13,13 @@ returns-clause-fits g c =
       bounds = before.bounds;
       recalls = before.recalls;
       kept_recalls = before.kept_recalls;
+      fade_recalls = before.fade_recalls;
       dearer = before.dearer;
       kept = subst (λ (r : Rows). fits_case c.args.case.now r ≡ true) (sym c.put_rows.ensures) before.faded;
       fade_prices = before.fade_prices;
       faded = before.faded;
+      best = before.best;
+      first_prices = before.first_prices;
       count = before.count;
       order = before.order;
     }

@@ -166,8 +166,8 @@ loop-kicks_before-init g c =
 
 -- ---- a kick
 
-pub try_kick-requires-clause-able : goal.try_kick-requires-clause-able
-try_kick-requires-clause-able g c =
+pub try_change-requires-clause-able : goal.try_change-requires-clause-able
+try_change-requires-clause-able g c =
     let k = c.args.held.now.case in
     let given = c.args.held.now.roster in
     let l = c.loop-kicks_before in
@@ -184,49 +184,49 @@ try_kick-requires-clause-able g c =
       );
     })
 
-pub loop-kicks_before-preserved-then-not-try_kick : goal.loop-kicks_before-preserved-then-not-try_kick
-loop-kicks_before-preserved-then-not-try_kick g c =
+pub loop-kicks_before-preserved-then-not-try_change : goal.loop-kicks_before-preserved-then-not-try_change
+loop-kicks_before-preserved-then-not-try_change g c =
     let k = c.args.held.now.case in
     let l = c.loop-kicks_before in
     let i = l.invariant in
-    let logged = c.try_kick.ensures.tried in
-    let back = logged.back c.if-not-try_kick.true in
+    let logged = c.try_change.ensures.tried in
+    let back = logged.back c.if-not-try_change.true in
     record {
       case = logged.case ∙ i.case;
       kept = logged.kept;
       frozen = subst (FrozenDaysStay k c.args.course.now.from c.args.held.now.roster) (sym back) i.frozen;
-      going = underway_same k c.args.course.now.from c.args.held.now.roster c.args.start c.args.course.now.kicks_alone g.W.Write.contents c.args.log.now l.log l.kicks_before l.sent l.settled l.held.roster i.going l.settled c.try_kick.new.held.roster (ap (penalty k) back)
+      going = underway_same k c.args.course.now.from c.args.held.now.roster c.args.start c.args.course.now.kicks_alone g.W.Write.contents c.args.log.now l.log l.kicks_before l.sent l.settled l.held.roster i.going l.settled c.try_change.new.held.roster (ap (penalty k) back)
           (λ e. subst (IsSettled k c.args.course.now.from) (sym back) (i.going.is_settled e)) (λ e. e);
       counted = omega (
         arith,
         i.counted,
         logged.spends.counted,
-        ap (λ (m : Meaning). extensions_of m c.try_kick.new.kicking.searches.left) i.case,
+        ap (λ (m : Meaning). extensions_of m c.try_change.new.kicking.searches.left) i.case,
         ap (λ (m : Meaning). extensions_of m l.kicking.searches.left) i.case,
       );
-      fits = subst (λ (m : Meaning). FitsPolish m c.try_kick.new.space) i.case logged.fits;
+      fits = subst (λ (m : Meaning). FitsPolish m c.try_change.new.space) i.case logged.fits;
     }
 
 -- the roster after a kick that stayed is settled, and may be kept
-kicked : (g : given.Over) (c : After-total-total g) → c.total-total.result ≡ penalty c.args.held.now.case c.try_kick.new.held.roster
-kicked g c = c.total-total.ensures.total ∙ ap (λ (m : Meaning). penalty m c.try_kick.new.held.roster) (c.try_kick.ensures.tried.case ∙ c.loop-kicks_before.invariant.case)
+kicked : (g : given.Over) (c : After-total-total g) → c.total-total.result ≡ penalty c.args.held.now.case c.try_change.new.held.roster
+kicked g c = c.total-total.ensures.total ∙ ap (λ (m : Meaning). penalty m c.try_change.new.held.roster) (c.try_change.ensures.tried.case ∙ c.loop-kicks_before.invariant.case)
 
 before_it : (g : given.Over) (c : After-total-total g) → c.total-before.result ≡ penalty c.args.held.now.case c.loop-kicks_before.held.roster
 before_it g c = c.total-before.ensures.total ∙ ap (λ (m : Meaning). penalty m c.loop-kicks_before.held.roster) c.loop-kicks_before.invariant.case
 
-stayed : (g : given.Over) (c : After-total-total g) → IsSettled c.args.held.now.case c.args.course.now.from c.try_kick.new.held.roster
+stayed : (g : given.Over) (c : After-total-total g) → IsSettled c.args.held.now.case c.args.course.now.from c.try_change.new.held.roster
 stayed g c =
-    subst (λ (m : Meaning). IsSettled m c.args.course.now.from c.try_kick.new.held.roster) c.loop-kicks_before.invariant.case (c.try_kick.ensures.tried.stayed c.if-not-try_kick.false)
+    subst (λ (m : Meaning). IsSettled m c.args.course.now.from c.try_change.new.held.roster) c.loop-kicks_before.invariant.case (c.try_change.ensures.tried.stayed c.if-not-try_change.false)
 
-reached : (g : given.Over) (c : After-total-total g) → IsReached c.args.held.now.case c.args.course.now.from c.args.held.now.roster c.try_kick.new.held.roster
+reached : (g : given.Over) (c : After-total-total g) → IsReached c.args.held.now.case c.args.course.now.from c.args.held.now.roster c.try_change.new.held.roster
 reached g c =
     let k = c.args.held.now.case in
     let from = c.args.course.now.from in
     let l = c.loop-kicks_before in
     let i = l.invariant in
-    let next = c.try_kick.new.held.roster in
-    let stays = subst (λ (m : Meaning). FrozenDaysStay m from l.held.roster next) i.case c.try_kick.ensures.tried.frozen in
-    reached_by c.try_kick.new.held.case k from c.args.held.now.roster next (c.try_kick.ensures.tried.case ∙ i.case) c.keeps_rules-in-loop-kicks_before.ensures.fits c.keeps_rules-in-loop-kicks_before.ensures.keeps
+    let next = c.try_change.new.held.roster in
+    let stays = subst (λ (m : Meaning). FrozenDaysStay m from l.held.roster next) i.case c.try_change.ensures.tried.frozen in
+    reached_by c.try_change.new.held.case k from c.args.held.now.roster next (c.try_change.ensures.tried.case ∙ i.case) c.keeps_rules-in-loop-kicks_before.ensures.fits c.keeps_rules-in-loop-kicks_before.ensures.keeps
     (stays_on k from c.args.held.now.roster l.held.roster next i.frozen stays)
 
 pub returns-in_err-sent-3-clause-err : goal.returns-in_err-sent-3-clause-err
@@ -234,7 +234,7 @@ returns-in_err-sent-3-clause-err g c =
     let at = (goal.at.returns-in_err-sent-3-clause-err g c).After-total-total in
     let p = err_from_is_err_and c.from_residual-in_err-sent-3.result c.from_residual-in_err-sent-3.ensures.1 in
     let l = c.loop-kicks_before in
-    rw (p.1, p.2) (cheaper_breaks c.args.held.now.case c.args.course.now.from c.args.held.now.roster c.args.start c.args.course.now.kicks_alone g.W.Write.contents c.args.log.now l.log l.kicks_before l.sent l.settled l.held.roster l.invariant.going c.try_kick.new.held.roster
+    rw (p.1, p.2) (cheaper_breaks c.args.held.now.case c.args.course.now.from c.args.held.now.roster c.args.start c.args.course.now.kicks_alone g.W.Write.contents c.args.log.now l.log l.kicks_before l.sent l.settled l.held.roster l.invariant.going c.try_change.new.held.roster
     (omega (arith, kicked g at, before_it g at, c.if-total-before.true)) (reached g at) (stayed g at) c.args.course.now.searches c.log_kick.new.log c.in_err-sent-3.field-0.0 c.loop-kicks_before-test.true
     (subst (λ n. BreaksIn g.W.Write.contents l.log c.log_kick.new.log l.sent (line (codes "kick " ++ decimal (l.kicks_before + 1)) n) c.in_err-sent-3.field-0.0) (kicked g at) c.in_err-sent-3.ensures.err))
 
@@ -246,8 +246,8 @@ loop-kicks_before-preserved g c =
     let start = c.args.held.now.roster in
     let l = c.loop-kicks_before in
     let i = l.invariant in
-    let logged = c.try_kick.ensures.tried in
-    let next = c.try_kick.new.held.roster in
+    let logged = c.try_change.ensures.tried in
+    let next = c.try_change.new.held.roster in
     let less : penalty k next ≤ penalty k l.held.roster = subst (λ (m : Meaning). penalty m next ≤ penalty m l.held.roster) i.case logged.no_dearer in
     record {
       case = logged.case ∙ i.case;
@@ -266,18 +266,18 @@ loop-kicks_before-preserved g c =
         arith,
         i.counted,
         logged.spends.counted,
-        ap (λ (m : Meaning). extensions_of m c.try_kick.new.kicking.searches.left) i.case,
+        ap (λ (m : Meaning). extensions_of m c.try_change.new.kicking.searches.left) i.case,
         ap (λ (m : Meaning). extensions_of m l.kicking.searches.left) i.case,
       );
-      fits = subst (λ (m : Meaning). FitsPolish m c.try_kick.new.space) i.case logged.fits;
+      fits = subst (λ (m : Meaning). FitsPolish m c.try_change.new.space) i.case logged.fits;
     }
 
 pub returns-in_err-sent-3-clause-no_dearer : goal.returns-in_err-sent-3-clause-no_dearer
 returns-in_err-sent-3-clause-no_dearer g c =
     let k = c.args.held.now.case in
     let l = c.loop-kicks_before in
-    let next = c.try_kick.new.held.roster in
-    let less : penalty k next ≤ penalty k l.held.roster = subst (λ (m : Meaning). penalty m next ≤ penalty m l.held.roster) l.invariant.case c.try_kick.ensures.tried.no_dearer in
+    let next = c.try_change.new.held.roster in
+    let less : penalty k next ≤ penalty k l.held.roster = subst (λ (m : Meaning). penalty m next ≤ penalty m l.held.roster) l.invariant.case c.try_change.ensures.tried.no_dearer in
     omega (arith, less, underway_no_dearer k c.args.course.now.from c.args.held.now.roster c.args.start c.args.course.now.kicks_alone g.W.Write.contents c.args.log.now l.log l.kicks_before l.sent l.settled l.held.roster l.invariant.going)
 
 -- ---- the end

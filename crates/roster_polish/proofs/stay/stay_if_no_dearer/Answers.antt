@@ -1,4 +1,4 @@
-use Rattle.std.proofs.Common.{◌≡◌, ◌∙◌, ap, arith, rules, sym, true}
+use Rattle.std.proofs.Common.{◌≡◌, ◌∙◌, ap, arith, refl, rules, sym, true}
 use Rattle.std.proofs.lemmas.Bool.{true≢false}
 use Rattle.roster_instance.specs.Meaning.{Meaning}
 use Rattle.roster_case.specs.Held.{HeldRoster}
@@ -8,6 +8,7 @@ use Rattle.roster_rules.specs.Penalties.{penalty}
 use Rattle.roster_laws.proofs.Frozen.{stays_on, stays_self}
 use Rattle.roster_polish.specs.Polished.{FitsPolish}
 use Rattle.roster_polish.specs.declared.space.PolishSpace.{PolishSpace}
+use Rattle.roster_polish.proofs.Memory.{fits_with}
 use Rattle.roster_polish.proofs.stay.stay_if_no_dearer.Goals as goal
 
 pub descend-settled-requires : goal.descend-settled-requires
@@ -16,24 +17,17 @@ descend-settled-requires g c = record { fits = c.requires.able.fits.bounds.rows.
 -- the memory serves after a descent, which writes into the workspace and the last searches alone
 descent_fits : {T : Type 0} (k : Meaning) (w : PolishSpace T) (s : _) (l : _) → FitsPolish k w → fits_space k s ≡ true → RecallsSearches k l
     → FitsPolish k (record w { bounds = record w.bounds { rows = record w.bounds.rows { workspace = s } }; last = l })
-descent_fits k w s l fits search recalls = record {
-  bounds = record {
-    rows = record { search = search; cover = fits.bounds.rows.cover };
-    dual_prices = fits.bounds.dual_prices;
-    aside = fits.bounds.aside;
-    subgradient = fits.bounds.subgradient;
-    direction = fits.bounds.direction;
-    pool = fits.bounds.pool;
-  };
-  recalls = recalls;
-  kept_recalls = fits.kept_recalls;
-  dearer = fits.dearer;
-  kept = fits.kept;
-  fade_prices = fits.fade_prices;
-  faded = fits.faded;
-  count = fits.count;
-  order = fits.order;
-}
+descent_fits k w s l fits search recalls =
+    fits_with k w fits (record w.bounds { rows = record w.bounds.rows { workspace = s } }) l w.best
+    (record {
+      rows = record { search = search; cover = fits.bounds.rows.cover };
+      dual_prices = fits.bounds.dual_prices;
+      aside = fits.bounds.aside;
+      subgradient = fits.bounds.subgradient;
+      direction = fits.bounds.direction;
+      pool = fits.bounds.pool;
+    })
+    recalls fits.best
 
 -- ---- it stays
 
@@ -57,6 +51,7 @@ returns-then-total-aim g c =
         spends = last.ensures.spends;
         fits = rw (← last.ensures.case) (search rules);
       };
+      best = c.keep.ensures.best;
     }
 
 -- ---- it doesn't
@@ -84,4 +79,5 @@ returns-else-settled g c =
         spends = logged.spends;
         fits = descent_fits k c.args.space.now c.descend-settled.new.workspace c.put.new.self fits logged.fits (c.put.ensures.recalls k fits.kept_recalls);
       };
+      best = refl;
     }

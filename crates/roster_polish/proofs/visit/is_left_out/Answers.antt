@@ -33,7 +33,7 @@ most_gain-gain-requires-clause-indices c =
     let t = c.args.terms.now in
     let day = c.loop-day.day in
     let offers = c.args.offers.now in
-    let are = can_search t.case.now t.from t.given.now 1 (slot_prices 1 t.dual_prices.now) c.args.nurse t.rows c.requires.nurse offers c.requires.offers c.keeps_limits.ensures.small.keep in
+    let are = can_search t.case.now t.from t.given.now t.scale (slot_prices t.scale t.dual_prices.now) c.args.nurse t.rows c.requires.nurse offers c.requires.offers c.keeps_limits.ensures.small.keep in
     let inside : day < day_count t.case.now = omega (arith, c.loop-day-test.true, c.days-day-end.ensures.count) in
     let here : c.as_slice-here.result.now ≡ offers_on offers day = c.as_slice-here.ensures.value ∙ offers_read t.case.now c.args.nurse offers are day inside c.index-offers-day.result c.index-offers-day.result c.index-offers-day.is in
     subst (All (λ offer. price_index (shift_of offer.choice) < 1 + most_shifts)) (sym here) (indices_fit t.case.now c.args.nurse (offers_on offers day) c.keeps_limits.ensures.shifts (are.each day inside))

@@ -10,7 +10,7 @@ use Rattle.roster_polish.proofs.visit.is_left_out.Given as goal
 
 abbrev pub invariant-loop-day : goal.invariant-loop-day
 invariant-loop-day l = record {
-  gain : l.gain ≡ sum_below l.day (λ d. most_gain (prices_on l.terms.case.now l.last l.nurse d) (offer_at (price_by l.terms.case.now 1 (slot_prices 1 l.terms.dual_prices.now) l.nurse) d (choice_on l.row d))
-      (shift_offers_by_dual_price l.terms.case.now l.terms.from l.terms.given.now 1 (slot_prices 1 l.terms.dual_prices.now) l.nurse d));
+  gain : l.gain ≡ sum_below l.day (λ d. most_gain (prices_on l.terms.case.now l.last l.nurse d) (offer_at (price_by l.terms.case.now l.terms.scale (slot_prices l.terms.scale l.terms.dual_prices.now) l.nurse) d (choice_on l.row d))
+      (shift_offers_by_dual_price l.terms.case.now l.terms.from l.terms.given.now l.terms.scale (slot_prices l.terms.scale l.terms.dual_prices.now) l.nurse d));
   within : l.gain ≤ 2 ^ 33 * l.day;
 }

@@ -1,7 +1,8 @@
 use Rattle.std.proofs.Common.{◌≡◌, ◌∙◌, ◌<◌, ap, length, subst, sym}
 use Rattle.std.proofs.Math.Path.{transport}
 use Rattle.roster_instance.specs.Meaning.{Meaning, day_count, nurse_count}
-use Rattle.roster_offers.specs.Lists.{AreOffers, IsFound, best_over, offers_on}
+use Rattle.roster_offers.specs.Lists.{AreOffersAt, IsFound, best_over, best_over_at, offers_on}
+use Rattle.roster_offers.proofs.AtOne.{best_over_one}
 use Rattle.roster_row.specs.Recalled.{RecallsSearches}
 use Rattle.roster_row.specs.Searches.{AreShiftOffers}
 use Rattle.roster_row.proofs.BestLaws.{KeepsLimits, best_keeps, found_best, found_penalty}
@@ -29,7 +30,7 @@ pub remember-requires-clause-nurse : goal.remember-requires-clause-nurse
 remember-requires-clause-nurse g c = subst (λ (m : Meaning). c.args.nurse < nurse_count m) (sym c.case-2.ensures) c.requires.nurse
 
 pub remember-requires-clause-recalls : goal.remember-requires-clause-recalls
-remember-requires-clause-recalls g c = subst (λ (m : Meaning). RecallsSearches m c.args.last.now) (sym c.case-2.ensures) c.requires.recalls
+remember-requires-clause-recalls g c = (1, subst (λ (m : Meaning). RecallsSearches m c.args.last.now) (sym c.case-2.ensures) c.requires.recalls)
 
 pub remember-requires-clause-days : goal.remember-requires-clause-days
 remember-requires-clause-days g c = ap length (those g (goal.at.remember-requires-clause-days g c).After-offers-2) ∙ c.offers_of_days.ensures.offers.days ∙ sym (ap day_count c.case-2.ensures)
@@ -41,13 +42,21 @@ remember-requires-clause-offers g c =
     let within : KeepsLimits k = subst KeepsLimits c.case.ensures (record { small = kept.small; weeks = kept.weeks; shifts = kept.shifts; skills = kept.skills; nurses = kept.nurses }) in
     let offers = c.offers_of_days.new.workspace.offers in
     let can = can_search k c.args.from c.args.held.now.roster c.args.nurse offers c.offers_of_days.ensures.offers within.small within.shifts within.skills c.keeps_rules.ensures.fits c.keeps_rules.ensures.keeps c.requires.nurse in
-    transport (λ i. AreOffers (sym c.case-2.ensures i) c.args.nurse (sym (those g (goal.at.remember-requires-clause-offers g c).After-offers-2) i)) can
+    (1, transport (λ i. AreOffersAt (sym c.case-2.ensures i) c.args.nurse 1 (sym (those g (goal.at.remember-requires-clause-offers g c).After-offers-2) i)) can)
 
-pub remember-requires-clause-found : goal.remember-requires-clause-found
-remember-requires-clause-found g c =
+-- the search was made in whole points
+found_at_one : (g : _) (c : After-offers-2 g) → IsFound (best_over_at c.case-2.result.now c.args.nurse 1 (offers_on c.offers-2.result.now)) c.best_of_offers-cost.result.0 c.best_of_offers-cost.new.workspace.row
+found_at_one g c =
     let cost = c.best_of_offers-cost.result.0 in
     let row = c.best_of_offers-cost.new.workspace.row in
-    (row, transport (λ i. IsFound (best_over (sym c.case-2.ensures i) c.args.nurse (offers_on (sym (those g (goal.at.remember-requires-clause-found g c).After-offers-2) i))) cost row) c.best_of_offers-cost.ensures.found)
+    let k = c.case-2.result.now in
+    let here = transport (λ i. IsFound (best_over (sym c.case-2.ensures i) c.args.nurse (offers_on (sym (those g c) i))) cost row) c.best_of_offers-cost.ensures.found in
+    subst (λ best. IsFound best cost row) (sym (best_over_one k c.args.nurse (offers_on c.offers-2.result.now))) here
+
+pub returns-clause-recalls : goal.returns-clause-recalls
+returns-clause-recalls g c =
+    subst (λ (m : Meaning). RecallsSearches m c.remember.new.self) c.case-2.ensures
+    (c.remember.ensures.recalls 1 (subst (λ (m : Meaning). RecallsSearches m c.args.last.now) (sym c.case-2.ensures) c.requires.recalls) c.best_of_offers-cost.new.workspace.row (found_at_one g (goal.at.returns-clause-recalls g c).After-offers-2))
 
 pub returns-clause-best : goal.returns-clause-best
 returns-clause-best g c =

@@ -11,7 +11,7 @@ use Rattle.roster_rules.specs.PenaltyBounds.{penalty_limit}
 use Rattle.roster_laws.specs.OneRow.{rest_of}
 use Rattle.roster_offers.specs.Lists.{AreOffers, offers_on}
 use Rattle.roster_offers.proofs.ListLaws.{offers_read}
-use Rattle.roster_row.specs.Recalled.{IsDearer, WasSearched, price_index, prices_on}
+use Rattle.roster_row.specs.Recalled.{IsDearer, WasSearchedAt, price_index, prices_on}
 use Rattle.roster_instance.specs.Choices.{shift_of}
 use Rattle.roster_row.proofs.BestLaws.{KeepsLimits, base_within}
 use Rattle.roster_row.proofs.OffersLaws.{can_search}
@@ -105,7 +105,7 @@ returns c rises from are =
     let all : c.loop-day.day ≡ day_count k = omega (arith, c.loop-day-test.false, c.loop-day.auto.day-end, c.requires.offers.1.days) in
     let changed = subst (λ days. HaveChanged k c.args.self.now n offers days so_far.rise so_far.fall) all so_far.changed in
     let cost_is : slice_index_or c.args.self.now.costs.items n None ≡ Some c.in-Some.cost = sym (get_or_read c.args.self.now.costs.items n c.index.result.now (omega (arith, c.requires.nurse, c.requires.recalls.nurses)) c.index.ensures None) ∙ c.in-Some.is in
-    let was = subst (λ (o : Option ℕ). IfSome o (WasSearched k c.args.self.now n)) cost_is (c.requires.recalls.searched n c.requires.nurse) in
+    let was = subst (λ (o : Option ℕ). IfSome o (WasSearchedAt k 1 c.args.self.now n)) cost_is (c.requires.recalls.searched n c.requires.nurse) in
     let owed : c.start-owed.result.1 ≡ due k n [] = c.start-owed.ensures.cost ∙ ap (λ (m : Meaning). due m n []) c.case-2.ensures in
     let enough : penalty k rows + so_far.fall ≤ rest_of k rows n + due k n [] + c.in-Some.cost + so_far.rise = omega (arith, leb-true c.loop-day.present c.loop-day.least rises, so_far.least_is, so_far.present_is, c.total-present.ensures.total, c.rest.ensures, owed) in
     none_cheaper k rows c.keeps_rules.ensures.fits c.keeps_rules.ensures.keeps n c.requires.nurse c.args.self.now c.in-Some.cost so_far.rise so_far.fall c.args.offers.now was changed enough from are

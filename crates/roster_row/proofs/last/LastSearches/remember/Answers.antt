@@ -6,7 +6,7 @@ use Rattle.std.proofs.lemmas.Nat.{mul-add-lt, mul-le}
 use Rattle.roster_instance.specs.Choices.{shift_of}
 use Rattle.roster_instance.specs.Limits.{most_days, most_nurses, most_shifts}
 use Rattle.roster_instance.specs.Meaning.{day_count, nurse_count}
-use Rattle.roster_offers.specs.Lists.{AreOffers, offers_on}
+use Rattle.roster_offers.specs.Lists.{AreOffersAt, offers_on}
 use Rattle.roster_offers.proofs.ListLaws.{offers_read}
 use Rattle.roster_row.specs.Recalled.{ArePrices, price_index}
 use Rattle.roster_row.proofs.RecallLaws.{day_put, recalls_more, others_stay, indices_fit}
@@ -21,16 +21,17 @@ day_in c = omega (arith, c.loop-day-test.true, c.requires.days)
 index_is : (c : In-loop-day) → c.args.nurse * length c.args.offers.now + c.loop-day.day ≡ c.args.nurse * day_count c.args.case.now + c.loop-day.day
 index_is c = ap (λ days. c.args.nurse * days + c.loop-day.day) c.requires.days
 
-offers_here : (c : After-as_slice) → AreOffers c.args.case.now c.args.nurse c.args.offers.now → c.loop-day.day < day_count c.args.case.now → c.as_slice.result.now ≡ offers_on c.args.offers.now c.loop-day.day
-offers_here c are inside = c.as_slice.ensures.value ∙ offers_read c.args.case.now c.args.nurse c.args.offers.now are c.loop-day.day inside c.index-offers-day.result c.index-offers-day.result c.index-offers-day.is
+offers_here : (c : After-as_slice) → (scale : ℕ) → AreOffersAt c.args.case.now c.args.nurse scale c.args.offers.now → c.loop-day.day < day_count c.args.case.now → c.as_slice.result.now ≡ offers_on c.args.offers.now c.loop-day.day
+offers_here c scale are inside = c.as_slice.ensures.value ∙ offers_read c.args.case.now c.args.nurse c.args.offers.now are c.loop-day.day inside c.index-offers-day.result c.index-offers-day.result c.index-offers-day.is
 
 pub prices_by_shift-requires : goal.prices_by_shift-requires
 prices_by_shift-requires c =
     let k = c.args.case.now in
-    let are = c.requires.offers in
+    let scale = c.requires.offers.0 in
+    let are = c.requires.offers.1 in
     let inside = day_in (goal.at.prices_by_shift-requires c).In-loop-day in
     record {
-      indices = subst (All (λ offer. price_index (shift_of offer.choice) < 1 + most_shifts)) (sym (offers_here c are inside)) (indices_fit k c.args.nurse (offers_on c.args.offers.now c.loop-day.day) c.keeps_limits.ensures.shifts (are.each c.loop-day.day inside));
+      indices = subst (All (λ offer. price_index (shift_of offer.choice) < 1 + most_shifts)) (sym (offers_here c scale are inside)) (indices_fit k c.args.nurse (offers_on c.args.offers.now c.loop-day.day) c.keeps_limits.ensures.shifts (are.each c.loop-day.day inside));
     }
 
 pub overflow_mul-nurse : goal.overflow_mul-nurse
@@ -42,7 +43,7 @@ pub index_mut-requires : goal.index_mut-requires
 index_mut-requires c =
     let k = c.args.case.now in
     let inside = day_in (goal.at.index_mut-requires c).In-loop-day in
-    omega (arith, index_is (goal.at.index_mut-requires c).In-loop-day, mul-add-lt c.args.nurse (day_count k) c.loop-day.day (nurse_count k) c.requires.nurse inside, c.loop-day.invariant.length, c.requires.recalls.days)
+    omega (arith, index_is (goal.at.index_mut-requires c).In-loop-day, mul-add-lt c.args.nurse (day_count k) c.loop-day.day (nurse_count k) c.requires.nurse inside, c.loop-day.invariant.length, c.requires.recalls.1.days)
 
 pub loop-day-preserved : goal.loop-day-preserved
 loop-day-preserved c =
@@ -56,8 +57,8 @@ loop-day-preserved c =
     let prices = c.loop-day.self.prices.items in
     let new = c.prices_by_shift.result in
     let offers = offers_on c.args.offers.now in
-    let all = old.length ∙ c.requires.recalls.days in
-    let here : ArePrices (offers day) new = subst (λ xs. ArePrices xs new) (offers_here at.After-as_slice c.requires.offers inside) c.prices_by_shift.ensures in
+    let all = old.length ∙ c.requires.recalls.1.days in
+    let here : ArePrices (offers day) new = subst (λ xs. ArePrices xs new) (offers_here at.After-as_slice c.requires.offers.0 c.requires.offers.1 inside) c.prices_by_shift.ensures in
     record {
       costs = old.costs;
       length = length-set prices (n * length c.args.offers.now + day) new ∙ old.length;
@@ -72,9 +73,8 @@ returns c =
     let k = c.args.case.now in
     let n = c.args.nurse in
     let old = c.loop-day.invariant in
-    let found = c.requires.found.1 in
     let all : c.loop-day.day ≡ day_count k = omega (arith, c.loop-day-test.false, c.loop-day.auto.day-end, c.requires.days) in
     record {
-      recalls = recalls_more k n c.requires.nurse c.args.self.now (record { prices = c.loop-day.self.prices; costs = with_item c.loop-day.self.costs n (Some c.args.cost) }) c.args.cost c.requires.recalls old.length (ap (λ v. slice_set v.items n (Some c.args.cost)) old.costs) old.others
+      recalls = λ scale recalls row found. recalls_more k n c.requires.nurse scale c.args.self.now (record { prices = c.loop-day.self.prices; costs = with_item c.loop-day.self.costs n (Some c.args.cost) }) c.args.cost recalls old.length (ap (λ v. slice_set v.items n (Some c.args.cost)) old.costs) old.others
           (record { offers = offers_on c.args.offers.now; row = found.offers; prices = λ d low. old.put d (omega (arith, low, all)); found = found.is });
     }

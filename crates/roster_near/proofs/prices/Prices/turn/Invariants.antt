@@ -1,0 +1,9 @@
+use Rattle.std.proofs.Common.{◌≡◌, length}
+use Rattle.roster_near.proofs.prices.Prices.turn.Given as goal
+
+abbrev pub invariant-loop-at : goal.invariant-loop-at
+invariant-loop-at l = record {
+  at_hand : length l.self.at_hand.items ≡ length l.initial.self.at_hand.items;
+  direction : length l.self.direction.items ≡ length l.initial.self.direction.items;
+  subgradient : length l.self.subgradient.items ≡ length l.initial.self.subgradient.items;
+}
