@@ -84,7 +84,7 @@ impl Climb {
         rose
     }
 
-    /// Whether no further round is worth while, after a first one or a later one.
+    /// Whether no further round is made, after a first one or a later one.
     fn is_done(&self, round: Round, is_first: bool) -> bool {
         self.poor >= MOST_POOR || (round.news == 0 && !is_first && self.poor > 1)
     }

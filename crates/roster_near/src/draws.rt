@@ -22,7 +22,7 @@ const FIRST_SIZES: [u32; KINDS] = [5 * 256, 12 * 256, 8 * 256, 6 * 256];
 const WEEKS_TO_HALVE: u16 = 6;
 
 /// By how much a size grows, in 256ths of a nurse, and the 256ths of it that are left if it shrinks.
-const GROWTH: u32 = 38;
+const GROWS_BY: u32 = 38;
 
 const SHRINKS_TO: u32 = 238;
 
@@ -31,7 +31,7 @@ const LEAST_SIZE: u32 = 3 * 256;
 
 const GREATEST_SIZE: u32 = 60 * 256;
 
-/// A size grows only if a try was worth fewer searches than this.
+/// A size grows only if a try took the work of fewer searches than this.
 const CLOSED_WITHIN: u64 = 1000;
 
 /// What a nurse weighs besides her excess, when nurses are drawn by it, in fine units: ten points.
@@ -40,9 +40,9 @@ const FLAT_WEIGHT: u64 = 10 * FINE_PER_POINT as u64;
 /// An excess is at most this, in fine units.
 const MOST_EXCESS: u64 = 1 << 40;
 
-/// What neighbourhoods are drawn by: random numbers, the size of each kind, in 256ths of a nurse, and what
-/// its tries were worth; how many tries there were; for each nurse her excess, which skills she has, one bit
-/// for each, and whether she is drawn. That takes 10 bytes for each nurse.
+/// What neighbourhoods are drawn by: random numbers; the size of each kind, in 256ths of a nurse, and the
+/// work that its tries took; how many tries there were; for each nurse her excess, which skills she has, one
+/// bit for each, and whether she is drawn. That takes 10 bytes for each nurse.
 pub(crate) struct Draws {
     pub(crate) dice: Dice,
     sizes: [u32; KINDS],
@@ -107,7 +107,7 @@ impl Draws {
         }
     }
 
-    /// The kind whose tries were worth least so far, of the first ones: the first if there are several.
+    /// The kind whose tries took the least work so far, of the first ones: the first if there are several.
     fn next_kind(&self, kinds: usize) -> usize
         ensures { result < 4 }
     {
@@ -206,21 +206,22 @@ impl Draws {
         }
     }
 
-    /// Records a try: what it was worth, and whether the neighbourhood was closed, that is searched to its
-    /// end. The size of its kind grows if it was closed soon and was about full, and else it shrinks.
-    pub(crate) fn record(&mut self, drawn: Drawn, closed: bool, free: usize, worth: u64) {
+    /// Records a try: its work, in searches, and whether the neighbourhood was closed, that is searched to
+    /// its end. The size of its kind grows if it was closed soon and was about full, and shrinks if it wasn't
+    /// closed soon.
+    pub(crate) fn record(&mut self, drawn: Drawn, closed: bool, free: usize, work: u64) {
         self.tries = self.tries.saturating_add(1);
         let kind = drawn.kind.min(KINDS - 1);
-        self.spent[kind] = self.spent[kind].saturating_add(worth.max(1));
+        self.spent[kind] = self.spent[kind].saturating_add(work.max(1));
         let size = self.sizes[kind];
-        if !closed || worth >= CLOSED_WITHIN {
+        if !closed || work >= CLOSED_WITHIN {
             self.sizes[kind] = (size.saturating_mul(SHRINKS_TO) / 256).max(LEAST_SIZE);
             return;
         }
         let full = (free as u64).saturating_mul(2560);
         let is_full = full > size as u64 * 7 && free >= drawn.size;
         if is_full {
-            self.sizes[kind] = size.saturating_add(GROWTH).min(GREATEST_SIZE);
+            self.sizes[kind] = size.saturating_add(GROWS_BY).min(GREATEST_SIZE);
         }
     }
 }

@@ -53,19 +53,19 @@
 //! searched depth first, the side first that has more of the cheapest rows, up to 1,000 nodes and 4 million
 //! valued rows.
 //!
-//! **Work** is counted in searches' worth: a search is 1, a listed row 1/40, a step 1/160, and a row that is
+//! **Work** is counted in searches: a search is 1, a listed row 1/40, a step 1/160, and a row that is
 //! valued 1/4,000 (`work`). So a budget is one number, whatever the machine.
 //!
 //! **Which nurses** (`draws`). There are four kinds of neighbourhoods: all days, one week, two weeks, and,
 //! from 6 open weeks on, half the weeks. A window has 0 to 4 days more on each side. The next try is of the
-//! kind whose tries were worth least so far. It frees half the size of its kind to all of it. Sizes begin
-//! with 5, 12, 8 and 6 nurses. A size grows by 0.15 if a try was closed within 1,000 searches' worth and was
-//! about as large as its size; else it shrinks to 0.93 of itself, but not below 3. The first nurse is drawn
-//! among all, and the others among those who share a skill with her. In half of the tries they are drawn by
-//! weight: ten points, and the nurse's excess, which is by how much the reduced cost of her present row is
-//! above the least, plus the prices of its slots that have too many nurses (`excess`, anew every 50 tries).
-//! In a quarter of the tries one present shift of a free nurse is forbidden, and rows that are as dear are
-//! accepted.
+//! kind whose tries took the least work so far. It frees half the size of its kind to all of it. Sizes begin
+//! with 5, 12, 8 and 6 nurses. A size grows by 0.15 if a try was closed within the work of 1,000 searches and
+//! was about as large as its size. If it wasn't closed within that work, it shrinks to 0.93 of itself, but
+//! not below 3. The first nurse is drawn among all, and the others among those who share a skill with her. In
+//! half of the tries they are drawn by weight: ten points, and the nurse's excess, which is by how much the
+//! reduced cost of her present row is above the least, plus the prices of its slots that have too many nurses
+//! (`excess`, anew every 50 tries). In a quarter of the tries one present shift of a free nurse is forbidden,
+//! and rows that are as dear are accepted.
 //!
 //! # What is promised
 //!

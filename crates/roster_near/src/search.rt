@@ -1,6 +1,6 @@
 //! A search in one neighbourhood.
 
-ghost use Rattle.std.specs.Prelude.{◌≡◌};
+ghost use Rattle.std.specs.Prelude.{◌≡◌, ◌<◌};
 ghost use Rattle.roster_instance.specs.Meaning.{day_count};
 ghost use Rattle.roster_near.specs.Spending.{CanGoOn, HasGoneOn};
 ghost use Rattle.roster_prices.specs.Workspaces.{FitsBound};
@@ -39,12 +39,13 @@ pub fn search_near<T: SearchesRows>(
     requires able { CanGoOn base.now.case.now bounds.old meter.old left }
     requires days { prices.old.days ≡ day_count base.now.case.now }
     ensures gone { HasGoneOn base.now.case.now bounds.new meter.old left meter.new result.left }
+    ensures fewer { 0 < left → result.left < left }
     ensures days { prices.new.days ≡ day_count base.now.case.now }
 {
     let mut budget = Budget { left, made: 0 };
     near.work = Work::default();
     let found = try_one(base, near, bounds, prices, &mut budget, meter);
-    let besides = near.work.worth().max(1);
+    let besides = near.work.in_searches().max(1);
     Tried {
         found,
         left: budget.left.saturating_sub(besides),
@@ -85,8 +86,8 @@ fn try_one<T: SearchesRows>(
     let before = budget.made;
     let closed = close(&task, near, bounds, prices, budget, meter);
     let searches = budget.made.saturating_sub(before);
-    let worth = near.work.worth().saturating_add(searches);
-    near.draws.record(drawn, closed, near.problem.free, worth);
+    let work = near.work.in_searches().saturating_add(searches);
+    near.draws.record(drawn, closed, near.problem.free, work);
     near.found.is_some
 }
 

@@ -1,4 +1,4 @@
-//! The work of a search in a neighbourhood, in searches' worth, so that a budget is one number.
+//! The work of a search in a neighbourhood, in searches, so that a budget is one number.
 
 ghost use Rattle.std.specs.Prelude.{◌≡◌, ◌+◌, ◌<◌};
 
@@ -28,10 +28,10 @@ pub(crate) struct Work {
     steps: u64,
 }
 
-/// How many valued rows are worth a search.
+/// How many valued rows count as a search.
 const VALUED_PER_SEARCH: u64 = 4000;
 
-/// How many valued rows are worth a listed one, and a step.
+/// How many valued rows count as much as a listed one, and as a step.
 const VALUED_PER_LISTED: u64 = 100;
 
 const VALUED_PER_STEP: u64 = 25;
@@ -52,8 +52,8 @@ impl Work {
         self.steps = self.steps.saturating_add(1);
     }
 
-    /// What was done, in searches' worth.
-    pub(crate) fn worth(&self) -> u64 {
+    /// What was done, in searches.
+    pub(crate) fn in_searches(&self) -> u64 {
         let listed = self.listed.saturating_mul(VALUED_PER_LISTED);
         let steps = self.steps.saturating_mul(VALUED_PER_STEP);
         self.valued.saturating_add(listed).saturating_add(steps) / VALUED_PER_SEARCH

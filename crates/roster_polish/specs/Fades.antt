@@ -49,7 +49,7 @@ abbrev pub searches_each : (alone : Bool) → (searches left nurses : ℕ) → �
 searches_each true searches left nurses = 0
 searches_each false searches left nurses = min ((left - spared searches nurses) / nurses) (most_each nurses)
 
--- in how many passes of a fade with so many searches for each nurse she may be searched once
+-- in how many passes of a fade with this many searches for each nurse she may be searched once
 abbrev pub passes_each : ℕ → ℕ
 passes_each each = if nat_le 200 each then 8 else 4
 

@@ -1,7 +1,7 @@
 //! In which turns of a run the roster is faded again, and in which a neighbourhood of it is searched.
 
-/// After so many searches that brought nothing cheaper a roster has been searched enough: an eighth of all,
-/// but at most this many.
+/// A roster has been searched enough after an eighth of all searches brought nothing cheaper, or after this
+/// many.
 const MOST_PATIENCE: u64 = 20_000;
 
 /// How much of a run goes to fades and to the neighbourhoods of their rosters: seven tenths. The rest goes to
@@ -21,7 +21,7 @@ pub(crate) struct Turns {
 }
 
 impl Turns {
-    /// The turns of a run of so many searches, of which some are left after its first fade. A later fade
+    /// The turns of a run of this many searches, of which some are left after its first fade. A later fade
     /// begins only if as many searches as the first one took can be made before the last part begins.
     pub(crate) fn after_fade(all: u64, left: u64) -> Turns {
         let end = all / 10 * (10 - TENTHS_WITH_FADES);
@@ -33,13 +33,13 @@ impl Turns {
         }
     }
 
-    /// Whether the roster is faded again in the next turn, with so many searches left: if it has been
+    /// Whether the roster is faded again in the next turn, with this many searches left: if it has been
     /// searched enough, and the last part of the run doesn't begin.
     pub(crate) fn fades_next(&self, left: u64) -> bool {
         self.since.saturating_sub(left) > self.patience && left > self.last_fade
     }
 
-    /// Records a turn, after which so many searches are left. Once a roster has been searched enough, fades
+    /// Records a turn, after which this many searches are left. Once a roster has been searched enough, fades
     /// follow one another until the last part of the run, whatever they bring.
     pub(crate) fn record(&mut self, left: u64, cheaper: bool) {
         if cheaper && self.since.saturating_sub(left) <= self.patience {

@@ -48,7 +48,7 @@ abbrev pub is_against : List Decision → (n d : ℕ) → Choice → Bool
 is_against node n d choice =
     list_any (λ x. (x.nurse == n) && (x.day == d) && not (is_as_decided x choice)) node
 
--- such a choice costs this many parts more: all that a price can have beside the dual price and the requests.
+-- such a choice costs this many parts more: all that a price can have but the dual price and the requests.
 -- That is 1,718,080 points at scale 1, 39,655 at scale 8 and 380 at scale 128.
 abbrev pub against_price : (scale : ℕ) → ℕ
 against_price scale = most_price_at scale - scale * (most_dual_price + most_request)

@@ -71,7 +71,7 @@ pub(crate) const FIRST_DUAL_PRICE: u32 = 30;
 const SECOND_DUAL_PRICE: u32 = 15;
 
 /// Sets the dual prices of the next round, after one before which `made` rounds were made. How many are yet
-/// to come it isn't told.
+/// to come it doesn't know.
 pub fn prepare_next<T: SearchesRows>(
     case: &Case,
     made: u16,

@@ -47,7 +47,7 @@ pub fn window_bound<T: SearchesRows>(
     base.scale as u64 * owed as u64 + cost as u64
 }
 
-/// A listing makes at most so many extensions for each day of the case: a longer one takes more time than
+/// A listing makes at most this many extensions for each day of the case: a longer one takes more time than
 /// many searches.
 const MOST_LISTED_PER_DAY: u64 = 20_000;
 

@@ -262,12 +262,12 @@ fade, up to 400 for each nurse, or fewer if there are more than 50 nurses, but
 not below 150; and the others for neighbourhoods. Once these have brought
 nothing for long, the roster is faded again, the neighbourhoods of that roster
 are searched, and so on, and the cheapest roster stays. The last three tenths go
-to neighbourhoods of that one. What is done there besides searches counts as the
-searches that it is worth. With --kicks it is up to a half to find dual prices,
-and the others for kicks. With --searches 0 there is nothing of all this. The
-same texts, --searches, --seed, --kicks and --from give the same rosters. It
-pays to try several seeds. A run that is ended by Ctrl-C leaves no rosters,
-since they are written at its end.
+to neighbourhoods of that one. What is done there besides searches counts as
+searches too, by the work that it takes. With --kicks it is up to a half to find
+dual prices, and the others for kicks. With --searches 0 there is nothing of all
+this. The same texts, --searches, --seed, --kicks and --from give the same
+rosters. It pays to try several seeds. A run that is ended by Ctrl-C leaves no
+rosters, since they are written at its end.
 
 With --from V, weeks 0 to V - 1 are frozen: each nurse's days in them stay as
 they are, and so do those of the section FIXED. All weeks are read and count

@@ -110,7 +110,7 @@ impl Drop for Directions {
     }
 }
 
-/// How many parts of a nurse are told apart.
+/// Into how many parts a nurse is divided.
 pub(crate) const NURSE_PARTS: u32 = 16;
 
 /// A direction is at most this, in these parts: that is 4096 nurses.
