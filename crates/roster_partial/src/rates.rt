@@ -23,7 +23,9 @@ use std::cmp::min;
 /// How many more pairs of rates are tried at most; fewer if an earlier search suggests where to begin.
 const MOST_TRIALS: usize = 11;
 
-const MOST_TRIALS_FROM_SAME: usize = 3;
+const MOST_TRIALS_FROM_SAME: usize = 8;
+
+const FEWEST_TRIALS_FROM_SAME: usize = 2;
 
 const MOST_TRIALS_FROM_OTHER: usize = 5;
 
@@ -175,7 +177,7 @@ fn plan_by(bounded: &Bounded<'_>, guess: Option<Guess>, meter: &mut Meter) -> Tr
         Some(guess) if guess.is_own => TrialPlan {
             rates: within_range(guess.rates, scale),
             by: scale * NEXT_CHANGE,
-            trials: MOST_TRIALS_FROM_SAME,
+            trials: trials_from_same(bounded.search.case),
             close: guess.spread.saturating_add(scale * CLOSE),
         },
         Some(guess) => TrialPlan {
@@ -203,6 +205,18 @@ fn plan_by(bounded: &Bounded<'_>, guess: Option<Guess>, meter: &mut Meter) -> Tr
 fn first_trials(case: &Case) -> usize {
     let weeks = case.weeks() as usize;
     weeks.saturating_sub(WEEKS_WITHOUT_TRIAL).max(FEWEST_TRIALS)
+}
+
+/// How many more pairs of rates a nurse's later searches try at most: one for each two weeks, since over more
+/// weeks better completion bounds spare more partial rows.
+fn trials_from_same(case: &Case) -> usize
+    ensures { result ≤ 8 }
+{
+    let weeks = case.weeks() as usize;
+    min(
+        MOST_TRIALS_FROM_SAME,
+        (weeks / 2).max(FEWEST_TRIALS_FROM_SAME),
+    )
 }
 
 /// The rates, each at most what one assignment or worked weekend too many costs at a scale.

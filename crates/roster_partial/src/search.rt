@@ -52,16 +52,12 @@ impl Hints {
             guesses: Guesses::none(),
         }
     }
+}
 
-    /// Whether a search begins with partial rows. It begins with the tables if the nurse has more completion
-    /// bounds than the tables take extensions at most, and in the searches that skip the partial rows since
-    /// these failed for her (`Guesses::miss`): a call uses up one of these.
-    fn begins(&mut self, search: &SearchInput<'_>, extensions: u64) -> bool {
-        if self.guesses.waits(search.nurse) {
-            return false;
-        }
-        completion_cells(search) as u64 <= extensions
-    }
+/// Whether a search begins with partial rows. It begins with the tables if the nurse has more completion
+/// bounds than the tables take extensions at most.
+fn begins(search: &SearchInput<'_>, extensions: u64) -> bool {
+    completion_cells(search) as u64 <= extensions
 }
 
 /// Searches the best row over a table of offers, wherever these come from. `row` then begins with its
@@ -99,7 +95,7 @@ pub fn search_row(
 {
     find_boxes(search, boxes);
     let extensions = extensions_at_most(search, boxes);
-    if hints.begins(search, extensions) {
+    if begins(search, extensions) {
         let bounded = Bounded {
             search: *search,
             last_count: meter.count()
@@ -108,7 +104,6 @@ pub fn search_row(
         if let Some(cost) = search_in_tables(&bounded, hints, tables, row, meter) {
             return cost;
         }
-        hints.guesses.miss(search.nurse);
     }
     roster_tables::search_states(search, boxes, tables, row, meter)
 }
@@ -193,8 +188,8 @@ fn search_partial(
     let scale = bounded.search.scale;
     let guess = hints.guesses.of(&bounded.search);
     let best = set_best_bounds(bounded, guess, completion_bounds, meter)?;
-    let mut limit = best.low.saturating_add(first_gap(guess, scale));
-    let mut more = 10 * scale;
+    let mut gaps = gaps_after(guess, scale);
+    let mut limit = best.low.saturating_add(gaps.first);
     'limits: for _tried in 0..MOST_LIMITS {
         let attempt = Attempt {
             completion_bounds,
@@ -209,22 +204,43 @@ fn search_partial(
             Within::Full => return None,
             Within::Dearer => {}
         }
-        limit = limit.saturating_add(more);
-        more = more.saturating_add(more / 2 + 5 * scale);
+        limit = limit.saturating_add(gaps.more);
+        gaps.more = gaps
+            .more
+            .saturating_add(gaps.more / 2)
+            .saturating_add(gaps.plus);
     }
     None
 }
 
-/// By how many points the first limit is above the lower bound and the gap of the nurse's last search. It is
-/// less than the smallest difference between the true penalties of two rows.
-const FIRST_MORE: u32 = 4;
+/// By how many points the first limit is above the lower bound if the nurse wasn't searched yet. It is less
+/// than the smallest difference between the true penalties of two rows.
+const FIRST_GAP: u32 = 4;
 
-/// By how much the first limit is above the lower bound of the best row's cost, in parts of a point.
-fn first_gap(guess: Option<Guess>, scale: u32) -> u32 {
-    let more = FIRST_MORE.saturating_mul(scale);
+/// Which limits are tried, in parts of a point: by how much the first is above the lower bound of the best
+/// row's cost, and the second above the first. Each further one is half as much more again, and `plus`.
+#[derive(Clone, Copy)]
+struct Gaps {
+    first: u32,
+    more: u32,
+    plus: u32,
+}
+
+/// Which limits are tried after an earlier search. By dual prices the best rows of a nurse come one close
+/// above the other from search to search, and a limit a little too high lets in many partial rows, so the
+/// gap of her last one is taken nearly as it was, and limits rise slowly.
+fn gaps_after(guess: Option<Guess>, scale: u32) -> Gaps {
     match guess {
-        Some(guess) if guess.is_own => guess.gap.saturating_add(more),
-        _ => more,
+        Some(guess) if guess.is_own => Gaps {
+            first: guess.gap.saturating_add(scale / 2),
+            more: scale.saturating_mul(2),
+            plus: 0,
+        },
+        _ => Gaps {
+            first: scale.saturating_mul(FIRST_GAP),
+            more: scale.saturating_mul(10),
+            plus: scale.saturating_mul(5),
+        },
     }
 }
 
