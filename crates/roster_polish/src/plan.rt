@@ -25,9 +25,7 @@ use crate::turns::Turns;
 use roster_costs::{first_absent_before, first_hard, first_succession_before, missing};
 use roster_instance::{Case, Roster};
 use roster_offers::{SearchesRows, greatest_scale};
-use roster_prices::{
-    Base, Fading, WHOLE, has_uncovered_slot, improve_dual_prices, raise_uncovered,
-};
+use roster_prices::{Base, Fading, WHOLE, has_uncovered_slot, raise_uncovered};
 use roster_slots::MOST_DUAL_PRICE;
 use roster_state::Meter;
 
@@ -117,7 +115,8 @@ fn repairable_rows_exist(case: &Case, roster: &Roster, from: u16)
     ensures { HaveRows case.now from roster.now }
 {}
 
-/// Improves the dual prices from which the fades begin, and keeps the given rows.
+/// Improves the dual prices from which the fades begin, also those of the run that follows, and keeps the
+/// given rows.
 fn begin_plan<T: SearchesRows>(
     base: &Base<'_>,
     course: &Course,
@@ -136,8 +135,9 @@ fn begin_plan<T: SearchesRows>(
 {
     base.case.keeps_limits();
     let nurses = base.case.nurses() as u32;
-    let rounds = rounds_within(course.searches, ROUNDS_DIVISOR, nurses).min(MOST_ROUNDS);
-    improve_dual_prices(base, rounds as u16, None, &mut space.bounds, meter);
+    let rounds = rounds_within(course.searches, ROUNDS_DIVISOR, MOST_ROUNDS, nurses);
+    space.improve_prices(base, rounds as u16, None, meter);
+    space.has_prices = true;
     space.kept.put_rows(base.given);
     Kicking {
         searches: Searches {

@@ -3,7 +3,9 @@
 ghost use Rattle.std.specs.Prelude.{◌≡◌, ◌+◌, ◌*◌, ◌/◌, ◌<◌, ◌≤◌, false, true, codes, if◌then◌else◌, IfErr, IfOk};
 ghost use Rattle.roster_bundle.specs.Limits.{greatest_u64};
 ghost use Rattle.roster_instance.specs.Limits.{most_nurses};
+ghost use Rattle.roster_instance.specs.Meaning.{nurse_count};
 ghost use Rattle.roster_laws.specs.FrozenDays.{FrozenDaysStay};
+ghost use Rattle.roster_laws.specs.Greatest.{extensions_in};
 ghost use Rattle.roster_rules.specs.Penalties.{penalty};
 ghost use Rattle.roster_polish.specs.Fades.{most_each, passes_each, searches_each};
 ghost use Rattle.roster_polish.specs.Polished.{FitsPolish, GivenLogStops, PolishLogStops, Polishes, PolishesGiven, first_searches, descent_searches};
@@ -22,7 +24,7 @@ use crate::space::PolishSpace;
 use crate::turns::Turns;
 use roster_case::Held;
 use roster_offers::SearchesRows;
-use roster_prices::{Base, improve_dual_prices};
+use roster_prices::Base;
 use roster_reports::{LogFault, log_start, log_word};
 use roster_state::Meter;
 use roster_text::Watch;
@@ -182,8 +184,7 @@ fn end_word(settled: bool) -> &'static [u8]
     if settled { b"settled" } else { b"stopped" }
 }
 
-/// Improves the dual prices from which a fade begins and by which kicks price, with at most a quarter of the
-/// searches, or half of them for kicks alone, and keeps the roster.
+/// Sets the dual prices from which a fade begins and by which kicks price, and keeps the roster.
 fn begin<T: SearchesRows>(
     held: &Held,
     course: &Course,
@@ -200,13 +201,8 @@ fn begin<T: SearchesRows>(
 {
     held.case().keeps_limits();
     let nurses = held.case().nurses() as u32;
-    let parts = if course.kicks_alone { 2 } else { 4 };
-    let rounds = rounds_within(course.searches, parts, nurses);
-    let base = Base::of(held, course.from);
-    let penalty = Some(held.total());
-    space.near.begin_run(base.case, course.seed);
-    improve_dual_prices(&base, rounds as u16, penalty, &mut space.bounds, meter);
-    space.first_prices.copy(&space.bounds.dual_prices);
+    let rounds = set_first_prices(held, course, space, meter);
+    space.near.begin_run(held.case(), course.seed);
     space.keep(held);
     let left = course.searches - rounds * nurses;
     let passes = passes_within(course, left, nurses);
@@ -219,16 +215,78 @@ fn begin<T: SearchesRows>(
     }
 }
 
-/// For how many rounds over all nurses the dual prices are improved: a hundred, or as many as take one of
-/// `parts` equal parts of the searches.
-pub(crate) fn rounds_within(searches: u32, parts: u32, nurses: u32) -> u32
+/// Sets these prices: those that a search for a first roster has left stay, and else they are improved.
+/// Returns for how many rounds they were.
+fn set_first_prices<T: SearchesRows>(
+    held: &Held,
+    course: &Course,
+    space: &mut PolishSpace<T>,
+    meter: &mut Meter,
+) -> u32
+    requires fits { FitsPolish held.now.case space.old }
+    requires room { meter.old + extensions_of held.now.case course.now.searches ≤ greatest_u64 }
+    ensures within { result * nurse_count held.now.case ≤ course.now.searches }
+    ensures counted { meter.new ≤ meter.old + extensions_in held.now.case result }
+    ensures fits { FitsPolish held.now.case space.new }
+{
+    if !space.has_prices {
+        return improve_first_prices(held, course, space, meter);
+    }
+    space.has_prices = false;
+    space.restore_prices(held.case());
+    0
+}
+
+/// Improves these prices. Returns for how many rounds.
+fn improve_first_prices<T: SearchesRows>(
+    held: &Held,
+    course: &Course,
+    space: &mut PolishSpace<T>,
+    meter: &mut Meter,
+) -> u32
+    requires fits { FitsPolish held.now.case space.old }
+    requires room { meter.old + extensions_of held.now.case course.now.searches ≤ greatest_u64 }
+    ensures within { result * nurse_count held.now.case ≤ course.now.searches }
+    ensures counted { meter.new ≤ meter.old + extensions_in held.now.case result }
+    ensures fits { FitsPolish held.now.case space.new }
+{
+    held.case().keeps_limits();
+    let rounds = rounds_for(course, held.case().nurses() as u32);
+    let base = Base::of(held, course.from);
+    space.improve_prices(&base, rounds as u16, Some(held.total()), meter);
+    rounds
+}
+
+/// For how many rounds dual prices are improved before a fade, with at most a quarter of the searches, or
+/// before kicks alone, with at most half of them.
+fn rounds_for(course: &Course, nurses: u32) -> u32
+    requires nurses { nurses ≤ most_nurses }
+    ensures few { result ≤ 100 }
+    ensures within { result * nurses ≤ course.now.searches }
+{
+    if course.kicks_alone {
+        return rounds_within(course.searches, 2, ROUNDS_OF_KICKS, nurses);
+    }
+    rounds_within(course.searches, 4, ROUNDS_OF_FADE, nurses)
+}
+
+/// For how many rounds they are improved at most. After more, all good rows of a nurse cost nearly the same
+/// by them, so that each search takes longer, and fades end no better.
+const ROUNDS_OF_FADE: u32 = 50;
+
+/// The same if kicks alone are made.
+const ROUNDS_OF_KICKS: u32 = 100;
+
+/// For how many rounds over all nurses dual prices are improved, if they may take one of `parts` equal parts
+/// of the searches, and are `most`.
+pub(crate) fn rounds_within(searches: u32, parts: u32, most: u32, nurses: u32) -> u32
     requires parts { 0 < parts }
     requires few { parts ≤ 4 }
     requires nurses { nurses ≤ most_nurses }
-    ensures few { result ≤ 100 }
+    ensures few { result ≤ most }
     ensures within { result * nurses ≤ searches }
 {
-    (searches / (parts * nurses.max(1))).min(100)
+    (searches / (parts * nurses.max(1))).min(most)
 }
 
 /// The passes over all nurses that a fade makes, and in how many of them each nurse may be searched once,

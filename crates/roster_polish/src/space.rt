@@ -1,7 +1,10 @@
 //! The memory of a run.
 
-ghost use Rattle.std.specs.Prelude.{◌≡◌, ◌<◌, ◌≤◌, ℕ, All, IfOk, length, true};
+ghost use Rattle.std.specs.Prelude.{◌≡◌, ◌+◌, ◌*◌, ◌<◌, ◌≤◌, ℕ, All, IfOk, length, true};
+ghost use Rattle.roster_bundle.specs.Limits.{greatest_u64};
+ghost use Rattle.roster_instance.specs.Meaning.{day_count, nurse_count};
 ghost use Rattle.roster_instance.specs.Rosters.{fits_case};
+ghost use Rattle.roster_laws.specs.Greatest.{extensions_in};
 ghost use Rattle.roster_row.specs.Recalled.{RecallsSearchesAt};
 ghost use Rattle.roster_polish.specs.Polished.{FitsPolish};
 
@@ -9,9 +12,10 @@ use roster_case::Held;
 use roster_instance::{Case, Roster};
 use roster_near::NearSpace;
 use roster_offers::{BestFault, SearchesRows};
-use roster_prices::{BoundWorkspace, count_rows};
+use roster_prices::{Base, BoundWorkspace, count_rows, improve_dual_prices};
 use roster_row::LastSearches;
 use roster_slots::DualPrices;
+use roster_state::Meter;
 use std::alloc::Global;
 
 /// What a run writes into: what a run that raises a bound does, with the workspace of its searches; the last
@@ -33,6 +37,8 @@ pub struct PolishSpace<T: SearchesRows> {
     pub(crate) near: NearSpace,
     pub(crate) best: Roster,
     pub(crate) first_prices: DualPrices,
+    /// Whether a search for a first roster has left these prices to the run after it.
+    pub(crate) has_prices: bool,
 }
 
 // Written by hand, so that a function that drops it has one call to prove.
@@ -51,6 +57,7 @@ impl<T: SearchesRows> Drop for PolishSpace<T> {
             near: _,
             best: _,
             first_prices: _,
+            has_prices: _,
         } = self;
     }
 }
@@ -83,6 +90,7 @@ impl<T: SearchesRows> PolishSpace<T> {
             near: NearSpace::for_case(alloc, case)?,
             best: roster.copy(alloc)?,
             first_prices: DualPrices::even(alloc, case, 0)?,
+            has_prices: false,
         })
     }
 
@@ -107,6 +115,26 @@ impl<T: SearchesRows> PolishSpace<T> {
     {
         self.kept.put_rows(held.roster());
         self.kept_last.put(&self.last);
+    }
+
+    /// Improves dual prices for some rounds over all nurses, as `improve_dual_prices` does, and lets fades
+    /// begin with them.
+    pub(crate) fn improve_prices(
+        &mut self,
+        base: &Base<'_>,
+        rounds: u16,
+        penalty: Option<u64>,
+        meter: &mut Meter,
+    )
+        requires fits { FitsPolish base.now.case.now self.old }
+        requires room { meter.old + extensions_in base.now.case.now rounds ≤ greatest_u64 }
+        ensures made { meter.old + rounds * (nurse_count base.now.case.now
+            * day_count base.now.case.now) ≤ meter.new }
+        ensures counted { meter.new ≤ meter.old + extensions_in base.now.case.now rounds }
+        ensures fits { FitsPolish base.now.case.now self.new }
+    {
+        improve_dual_prices(base, rounds, penalty, &mut self.bounds, meter);
+        self.first_prices.copy(&self.bounds.dual_prices);
     }
 
     /// Lets slots pay the dual prices with which fades begin.

@@ -1,16 +1,10 @@
-use Rattle.std.proofs.Common.{◌≡◌, ◌∙◌, ◌+◌, ◌≤◌, ap, subst}
-use Rattle.roster_instance.specs.Meaning.{Meaning, nurse_count}
-use Rattle.roster_laws.specs.Greatest.{extensions_in}
-use Rattle.roster_polish.proofs.Steps.{rounds_fit_meter, rounds_spent}
+use Rattle.std.proofs.Common.{◌≡◌, ◌∙◌, ◌*◌, ◌≤◌, ℕ, ap, subst, sym}
+use Rattle.roster_instance.specs.Meaning.{nurse_count}
+use Rattle.roster_polish.proofs.Steps.{rounds_spent}
 use Rattle.roster_polish.proofs.run.begin.Goals as goal
-
-pub improve_dual_prices-requires-clause-room : goal.improve_dual_prices-requires-clause-room
-improve_dual_prices-requires-clause-room g c =
-    let all : c.nurses-nurses.result ≡ nurse_count c.args.held.now.case = c.nurses-nurses.ensures.count ∙ ap nurse_count c.case-2.ensures in
-    rw c.of-base.ensures.case (rounds_fit_meter c.args.held.now.case c.rounds_within-rounds.result c.args.course.now.searches c.nurses-nurses.result all c.rounds_within-rounds.ensures.within c.args.meter.now 18446744073709551615 c.requires.room)
 
 pub returns-clause-counted : goal.returns-clause-counted
 returns-clause-counted g c =
     let all : c.nurses-nurses.result ≡ nurse_count c.args.held.now.case = c.nurses-nurses.ensures.count ∙ ap nurse_count c.case-2.ensures in
-    rounds_spent c.args.held.now.case c.rounds_within-rounds.result c.args.course.now.searches c.nurses-nurses.result all c.rounds_within-rounds.ensures.within c.args.meter.now c.improve_dual_prices.new.meter
-    (subst (λ (m : Meaning). c.improve_dual_prices.new.meter ≤ c.args.meter.now + extensions_in m c.rounds_within-rounds.result) c.of-base.ensures.case c.improve_dual_prices.ensures.counted)
+    let few = subst (λ (n : ℕ). c.set_first_prices-rounds.result * n ≤ c.args.course.now.searches) (sym all) c.set_first_prices-rounds.ensures.within in
+    rounds_spent c.args.held.now.case c.set_first_prices-rounds.result c.args.course.now.searches c.nurses-nurses.result all few c.args.meter.now c.set_first_prices-rounds.new.meter c.set_first_prices-rounds.ensures.counted
