@@ -391,7 +391,8 @@ def variable_types(function: Function, name: str, depth: int) -> list[Type] | No
         kinds: list[Type] = []
         for binding in found:
             body = source(function.path).bodies[function][1]
-            more = written_type(scope_of(function), binding[1]) if binding[1] else value_types(function, expression(body, binding.end()), depth + 1)
+            given = expression(body, binding.end())
+            more = written_type(scope_of(function), binding[1]) if binding[1] else value_types(function, given, depth + 1)
             if more is None:
                 return None
             kinds += more
