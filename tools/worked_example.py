@@ -204,7 +204,7 @@ def follow(search: Search, bound_after):
 
 
 def next_rate(rate: int, by: int, most: int, count: int, greatest: int) -> int:
-    """The rate to try next for something of which a row has so many."""
+    """The rate to try next for something of which a row has this number."""
     return min(rate + by, most) if count > greatest else max(rate - by, 0) if count < greatest else rate
 
 
