@@ -1,4 +1,4 @@
-//! The command `polish`: a fade and kicks, after each of which the roster is settled again.
+//! The command `polish`: fades and neighbourhoods, or kicks, after each of which the roster is settled again.
 
 ghost use Rattle.std.specs.Prelude.{◌≡◌, min};
 ghost use Rattle.roster_polish.specs.Polished.{most_searches};
@@ -14,8 +14,8 @@ use roster_text::Watch;
 use std::alloc::Global;
 use std::io::Write;
 
-/// Writes the weeks of an instance after a run of a fade and kicks. The run's log goes to the log first, line
-/// by line as it is made.
+/// Writes the weeks of an instance after a run of fades and neighbourhoods, or of kicks. The run's log goes
+/// to the log first, line by line as it is made.
 pub(crate) fn report_polish<'a, Out: Write, Log: Write>(
     alloc: Global,
     course: &Course,

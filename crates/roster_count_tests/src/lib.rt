@@ -1,5 +1,5 @@
-//! What a search takes, as well as what its contract states: the number of extensions, by tests, and the
-//! number of bytes that don't depend on the case.
+//! What a search takes, and no contract states: how many extensions it makes on some wards, by tests, and how
+//! many bytes don't depend on the case.
 #![tactic(auto)]
 
 #[cfg(test)]
