@@ -2,7 +2,7 @@
 
 | Module | What it holds |
 |---|---|
-| command_line, helps, options | the words of the command line, its help, and the options of each command |
+| command_line, parsing, helps, options | the words of the command line, its help, and the options of each command |
 | given, commands | what a command works on, and what each does |
 | texts | the files, and the places in them: file, line, word |
 | case | the types of a case and of rosters, and what is counted of these |
@@ -21,6 +21,10 @@
 | why, best_row | what it would cost to meet a request, and the search for the cheapest row that does |
 | who, swap | who may take a shift, and a swap of two nurses' days |
 | next_month | the history that a roster leaves, and the folder of the next month |
+| balances | nights, weekends, unmet requests and changes of each nurse |
+| spreadsheet | tables as spreadsheets save them |
+| cutting | greatest numbers that can't bind, which the program gets cut |
+| ward | a ward in one file, which remembers |
 
 Every roster and every total is the program's. What is counted here is compared with the program before it is shown.
 """

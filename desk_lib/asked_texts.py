@@ -4,9 +4,9 @@ import collections.abc
 import contextlib
 
 from desk_lib import gone
-from desk_lib.asks import AWAY, Asks
+from desk_lib.asks import ANY_SHIFT, AWAY, Asks
 from desk_lib.case import Choice, NurseDay
-from desk_lib.grammar import DAYS, Part, Section
+from desk_lib.grammar import ANY, DAYS, Part, Section
 from desk_lib.program import Program, plan_in
 from desk_lib.replacing import Replacement
 from desk_lib.texts import DeskError, Edit, Text, Texts, shown
@@ -28,14 +28,17 @@ class Asked:
         of_days: dict[NurseDay, tuple[bytes, list[bytes]]] = {
             at: self.request(choice) for at, choice in self.asks.days_of("off", "pin").items()
         }
+        wishes = [(at, self.request(choice)) for at, choice in sorted(self.asks.wishes)]
         of_days |= {at: (ABSENT, []) for at in self.asks.days_of(*AWAY)}
         fixed: list[tuple[NurseDay, tuple[bytes, list[bytes]]]] = [(at, (FIXED, [])) for at in sorted(self.asks.fixed)]
-        for (nurse, day), (keyword, shift) in [*sorted(of_days.items()), *fixed]:
+        for (nurse, day), (keyword, shift) in [*sorted([*of_days.items(), *wishes]), *fixed]:
             yield day // 7, keyword, b" ".join([self.plan.case.nurses[nurse].name, *shift, DAYS[day % 7]])
 
     def request(self, choice: Choice) -> tuple[bytes, list[bytes]]:
         """The section and the shift of a request for this choice."""
-        return (OFF, [b"Any"]) if choice is None else (ON, [self.plan.case.shifts[choice[0]].name])
+        if choice is None:
+            return OFF, [ANY]
+        return ON, [ANY if choice[0] == ANY_SHIFT else self.plan.case.shifts[choice[0]].name]
 
     def of_weeks(self, end: bytes) -> list[Edit]:
         """What gives the weeks all lines, each after `end`."""
@@ -103,9 +106,11 @@ class Asked:
 
     # ---- the texts
 
-    def added_to(self, texts: Texts) -> Texts:
-        """The texts with all that is asked for. It stands in lines that are there, so that the others keep their numbers."""
-        return texts.edited([*self.of_weeks(b" "), *self.needs(), *self.contracts(b" "), *self.duties()])
+    def added_to(self, texts: Texts, with_duties: bool = True) -> Texts:
+        """The texts with all that is asked for, or all but the duties in the roster. It stands in lines that are there, so that the
+        others keep their numbers."""
+        duties = self.duties() if with_duties else []
+        return texts.edited([*self.of_weeks(b" "), *self.needs(), *self.contracts(b" "), *duties])
 
     def scenario(self, texts: Texts) -> bytes | None:
         """The scenario with the contracts of those who are gone, if somebody is."""

@@ -3,6 +3,7 @@
     absent NURSE DAYS               the nurse can't work on these days: a hard rule
     gone NURSE DAYS                 as absent, and she isn't of the ward then: her contract is for the other days alone
     off NURSE DAYS                  the nurse asks to be off on these days
+    wish NURSE SHIFT DAYS           the nurse asks for this shift on these days; 'Any' is each
     pin NURSE DAYS                  on these days the nurse is to do what the roster says now
     fix NURSE DAYS                  she does, by a hard rule
     duty NURSE DAY SHIFT [SKILL]    she has this shift then: it is put into the roster, and fixed
@@ -23,7 +24,7 @@ import typing
 from desk_lib.case import Choice, NurseDay, Roster, ShiftSkill
 from desk_lib.days import day_in, day_text, days_in, monday_in
 from desk_lib.findings import nearest, numbered
-from desk_lib.grammar import MOST_OF
+from desk_lib.grammar import ANY, MOST_OF
 from desk_lib.model import Plan, choice_name
 from desk_lib.texts import DeskError, Text, plural, shown
 
@@ -32,6 +33,7 @@ FORMS = {
     b"absent": ("absent NURSE DAYS", 2, 999),
     b"gone": ("gone NURSE DAYS", 2, 999),
     b"off": ("off NURSE DAYS", 2, 999),
+    b"wish": ("wish NURSE SHIFT DAYS", 3, 999),
     b"pin": ("pin NURSE DAYS", 2, 999),
     b"fix": ("fix NURSE DAYS", 2, 999),
     b"duty": ("duty NURSE DAY SHIFT [SKILL]", 3, 4),
@@ -40,6 +42,10 @@ FORMS = {
     b"start": ("start DATE", 1, 1),
 }
 Read = typing.TypeVar("Read")
+# The kind of a text that has the asks of a ward: a line for each, by its number there.
+OF_WARD = "asks of a ward"
+# The shift of a wish for any.
+ANY_SHIFT = -1
 # Those by which the nurse can't work, those by which she does what the roster says now, and those that are hard rules of a day.
 AWAY, KEEPING, FIXING = ("absent", "gone"), ("pin", "fix"), ("fix", "duty")
 
@@ -53,8 +59,17 @@ class Ask:
     nurse: int
     days: dict[int, Choice]
 
-    def remedy(self) -> str:
-        """What keeps it."""
+    def is_met(self, day: int, choice: Choice) -> bool:
+        """Whether a choice of the nurse on one of its days is what it asks for."""
+        wanted = self.days[day]
+        if self.kind == "wish" and wanted is not None:
+            return choice is not None and wanted[0] in (ANY_SHIFT, choice[0])
+        return choice == wanted
+
+    def remedy(self, ward: str = "") -> str:
+        """What keeps it, in the ward of this name if it is of one."""
+        if ward and (self.kind in AWAY or self.kind == "duty"):
+            return f"'desk repair {ward}' looks for a roster that keeps it"
         if self.kind in AWAY:
             return "'desk improve --plan' looks for a roster that keeps it"
         return "'desk improve --plan' puts it in" if self.kind == "duty" else "change it by hand"
@@ -66,8 +81,13 @@ def lines_of(text: Text) -> list[tuple[int, list[bytes]]]:
     return [(number, words) for number, words in enumerate(lines, 1) if words]
 
 
+def place(text: Text, line: int) -> str:
+    """Where a line stands: in a file, or as an ask of a ward."""
+    return f"{shown(text.name)}, ask {line}" if text.kind == OF_WARD else f"{shown(text.name)}:{line}"
+
+
 def wrong(text: Text, line: int, message: str) -> DeskError:
-    return DeskError(f"{shown(text.name)}:{line}: {message}")
+    return DeskError(f"{place(text, line)}: {message}")
 
 
 def start_in(text: Text, start: datetime.date | None) -> datetime.date | None:
@@ -85,12 +105,20 @@ def start_in(text: Text, start: datetime.date | None) -> datetime.date | None:
     return start
 
 
+@dataclasses.dataclass(frozen=True)
+class Held:
+    """What no ask may change: the weeks before this one; and the days that are published, for those of whom nothing else is asked."""
+
+    first_week: int = 0
+    published: int = 0
+
+
 class Asks:
     """The asks of a text, for a plan."""
 
-    def __init__(self, text: Text, plan: Plan, start: datetime.date | None = None, since: bytes = b""):
+    def __init__(self, text: Text, plan: Plan, start: datetime.date | None = None, since: bytes = b"", held: Held = Held()):
         """`since` is the day that --from names."""
-        self.text, self.plan, self.start = text, plan, start
+        self.text, self.plan, self.start, self.held = text, plan, start, held
         self.nurses = {nurse.name: number for number, nurse in enumerate(plan.case.nurses)}
         self.asks: list[Ask] = []
         self.of_days: dict[tuple[int, int], tuple[Choice, int]] = {}
@@ -110,8 +138,20 @@ class Asks:
     def wrong(self, line: int, message: str) -> DeskError:
         return wrong(self.text, line, message)
 
+    @property
+    def is_of_ward(self) -> bool:
+        return self.text.kind == OF_WARD
+
+    @property
+    def asks_anything(self) -> bool:
+        """Whether something is asked for, besides that days are past."""
+        return bool(self.asks or self.needs)
+
+    def line_name(self, line: int) -> str:
+        return f"ask {line}" if self.is_of_ward else f"line {line}"
+
     def answer(self, line: int, text: str) -> None:
-        self.answers.append(f"{shown(self.text.name)}:{line}: {text}")
+        self.answers.append(f"{place(self.text, line)}: {text}")
 
     def take(self, line: int, kind: bytes, *rest: bytes) -> None:
         """Takes a line."""
@@ -124,23 +164,35 @@ class Asks:
         if kind == b"need":
             self.take_need(line, *rest)
         elif kind == b"today":
-            self.take_today(f"{shown(self.text.name)}:{line}", f"line {line}", *rest)
+            self.take_today(place(self.text, line), self.line_name(line), *rest)
         elif kind != b"start":
             self.take_ask(self.ask(line, shown(kind), self.number(line, "nurse", rest[0], [*self.nurses]), *rest[1:]))
 
     def check(self) -> None:
         """Refuses what can't be together."""
         for ask in self.asks:
-            for day in ask.days if ask.kind in AWAY else ():
-                if day < self.past and self.roster[ask.nurse][day]:
-                    works = choice_name(self.plan.case, self.roster[ask.nurse][day])
-                    message = f"the roster has {works} then, and the day is past by {self.past_by}"
-                    name = shown(self.plan.case.nurses[ask.nurse].name)
-                    raise self.wrong(ask.line, f"{ask.kind} {name} {day_text(day)}: {message}; let the line begin later")
+            for day, choice in ask.days.items():
+                if day < max(self.past, 7 * self.held.first_week):
+                    self.check_past(ask, day, choice)
         count, most = len(self.plan.case.contracts) + len(self.gone), MOST_OF[b"CONTRACTS"]
         if self.gone and count > most:
             message = f"each nurse who is gone gets a contract of her own, and {count} contracts are more than {most}"
             raise self.wrong(max(ask.line for ask in self.asks if ask.kind == "gone"), f"{message}; let fewer be gone")
+
+    def check_past(self, ask: Ask, day: int, choice: Choice) -> None:
+        """Refuses an ask that would change a day which is past. A ward's asks stay when their days are past, so there a day may be
+        fixed."""
+        now, name = self.plan.roster[ask.nurse][day], shown(self.plan.case.nurses[ask.nurse].name)
+        by = self.past_by if day < self.past else f"--from {self.held.first_week}"
+        head, past = f"{ask.kind} {name} {day_text(day)}", f"the day is past by {by}"
+        if ask.kind in AWAY and now:
+            message = f"{head}: the roster has {choice_name(self.plan.case, now)} then, and {past}"
+            raise self.wrong(ask.line, f"{message}; let the line begin later")
+        if ask.kind == "duty" and now != choice:
+            message = f"{head}: the roster has {choice_name(self.plan.case, now)} then, and {past}, so that it stays"
+            raise self.wrong(ask.line, f"{message}; name a later day, or take the line away")
+        if ask.kind in FIXING and not self.is_of_ward:
+            raise self.wrong(ask.line, f"{head}: {past}, and stays as it is; take the line away")
 
     # ---- one line
 
@@ -148,20 +200,29 @@ class Asks:
         """What a line asks of a nurse."""
         if kind == "duty":
             return Ask(line, kind, nurse, self.duty(line, nurse, *rest))
+        wished: Choice = None
+        if kind == "wish":
+            word, *rest_days = rest
+            names = [known.name for known in self.plan.case.shifts]
+            wished = (ANY_SHIFT if word == ANY else self.number(line, "shift", word, names), ANY_SHIFT)
+            rest = (*rest_days,)
         days = self.read(line, lambda: days_in(rest, self.plan.case.weeks, self.start))
-        return Ask(line, kind, nurse, {day: self.kept(line, kind, nurse, day) if kind in KEEPING else None for day in days})
+        return Ask(line, kind, nurse, {day: self.kept(line, kind, nurse, day) if kind in KEEPING else wished for day in days})
 
     def take_ask(self, ask: Ask) -> None:
         for day, choice in ask.days.items():
             before = self.of_days.setdefault((ask.nurse, day), (choice, ask.line))
-            if before[0] != choice:
-                message = f"{day_text(day)} is asked for otherwise in line {before[1]}"
+            # (a wish for a shift goes with a duty or another wish, and not with a day off)
+            has_wish = any(of is not None and of[1] == ANY_SHIFT for of in (before[0], choice))
+            if before[0] != choice and not (has_wish and None not in (before[0], choice)):
+                message = f"{day_text(day)} is asked for otherwise in {self.line_name(before[1])}"
                 raise self.wrong(ask.line, f"{message}; take one of them away")
             if ask.kind == "duty":
                 self.roster[ask.nurse][day] = choice
         self.asks.append(ask)
-        names = [f" {day_text(day)} {choice_name(self.plan.case, choice)}" for day, choice in ask.days.items()]
-        duty = "".join(names) if ask.kind == "duty" else ""
+        duty = ""
+        if ask.kind == "duty":
+            duty = "".join(f" {day_text(day)} {choice_name(self.plan.case, choice)}" for day, choice in ask.days.items())
         name = shown(self.plan.case.nurses[ask.nurse].name)
         self.answer(ask.line, f"{ask.kind} {name}{duty}: {plural(len(ask.days), 'day')}")
 
@@ -181,7 +242,7 @@ class Asks:
         # (after the shift and the skill stand pairs of five words, of which the second is the minimum)
         before = self.needs.setdefault(at + 2 + 5 * weekday + 1, (count, line))
         if int(before[0]) != int(count):
-            raise self.wrong(line, f"{day_text(day)} needs otherwise in line {before[1]}; take one of them away")
+            raise self.wrong(line, f"{day_text(day)} needs otherwise in {self.line_name(before[1])}; take one of them away")
         self.answer(line, f"need {day_text(day)} {shown(shift)} {shown(skill)} {int(count)}: 1 day")
 
     def take_today(self, source: str, by: str, word: bytes) -> None:
@@ -252,10 +313,18 @@ class Asks:
         return {(ask.nurse, day): choice for ask in self.asks if ask.kind in kinds for day, choice in ask.days.items()}
 
     @property
+    def wishes(self) -> set[tuple[NurseDay, ShiftSkill]]:
+        """The wishes to work: the nurse, the day, and the shift."""
+        wished = [ask for ask in self.asks if ask.kind == "wish"]
+        return {((ask.nurse, day), choice) for ask in wished for day, choice in ask.days.items() if choice}
+
+    @property
     def fixed(self) -> set[NurseDay]:
         """The nurses and days that stay as they are."""
         past = {(nurse, day) for nurse in range(len(self.roster)) for day in range(self.past)}
-        return past.union(self.days_of(*FIXING))
+        free = {*self.days_of(*AWAY, "duty")}
+        held = {(nurse, day) for nurse in range(len(self.roster)) for day in range(self.held.published)}
+        return past.union(held - free, self.days_of(*FIXING))
 
     @property
     def gone(self) -> dict[int, set[int]]:
@@ -267,13 +336,13 @@ class Asks:
 
     def failed(self, roster: Roster) -> list[str]:
         """What a roster fails, with a line for each line of the text, and how much is as it was asked for."""
-        found, count = [], 0
+        found, count, ward = [], 0, shown(self.text.name) if self.is_of_ward else ""
         for ask in self.asks:
-            days = [day for day, choice in ask.days.items() if roster[ask.nurse][day] != choice]
+            days = [day for day in ask.days if not ask.is_met(day, roster[ask.nurse][day])]
             count += len(days)
             if days:
                 works = ", ".join(f"{day_text(day)} {choice_name(self.plan.case, roster[ask.nurse][day])}" for day in days)
                 name = shown(self.plan.case.nurses[ask.nurse].name)
-                found.append(f"{shown(self.text.name)}:{ask.line}: {ask.kind} {name} isn't kept: {works}; {ask.remedy()}")
+                found.append(f"{place(self.text, ask.line)}: {ask.kind} {name} isn't kept: {works}; {ask.remedy(ward)}")
         whole = sum(len(ask.days) for ask in self.asks)
         return [*found, f"{shown(self.text.name)}: {whole - count} of {plural(whole, 'day')} as asked for"] if self.asks else []

@@ -1,11 +1,13 @@
 """The command `check`: all that is wrong with texts, each with its file, line and word."""
 import collections.abc
+import dataclasses
 import re
 
 from desk_lib import breaches, hidden, names, program, shortage
 from desk_lib.asked_texts import Asked
-from desk_lib.asks import Asks
+from desk_lib.asks import AWAY, Asks
 from desk_lib.case import ShiftSkill
+from desk_lib.cutting import too_many
 from desk_lib.doubts import Doubts
 from desk_lib.findings import Finding, LineKey, of_words
 from desk_lib.grammar import MOST_OF, PARTS, Bundle, Fault, Part, Words, read_bundle
@@ -130,8 +132,7 @@ def of_nurse(texts: Texts, line: str) -> Finding:
     if states:
         for first, *_ in read_bundle(words).scenario[b"NURSES"].lines:
             if shown(words.words[first]) == states[1]:
-                remedy = "lower the greatest numbers of the contract or of a shift: docs/TUTORIAL.md, 'Longer horizons'"
-                return Finding(words.offset(first), words.place(first), f"{line}; {remedy}")
+                return Finding(words.offset(first), words.place(first), line + too_many(texts.joined, line))
     return Finding(-1, None, line)
 
 
@@ -218,24 +219,40 @@ def check(roster: Program, texts: Texts, asks_of: AsksOf) -> tuple[list[str], in
         found = refused_text(texts, line)
     else:
         plan = program.plan_in(texts)
-        found, more = of_shortages(plan, texts, asks_of) if is_rosterless else of_roster(plan, texts, asks_of, line)
-        warnings = Doubts(plan, texts).findings()
+        found, more = of_shortages(plan, texts, asks_of) if is_rosterless else of_roster(roster, plan, texts, asks_of, line)
+        warnings = [*Doubts(plan, texts).findings(), *of_staff(plan)]
     lines = [line for finding in [*found, *warnings] for line in finding.lines()]
     counts = plural(len(found), "fault") if found else "nothing is wrong"
     counts += f", {plural(len(warnings), 'warning')}" if warnings else ""
     return [*lines, summary(texts, answer, counts) + more], answer.status or int(bool(found))
 
 
-def of_roster(plan: Plan, texts: Texts, asks_of: AsksOf, line: str) -> tuple[list[Finding], str]:
-    """What is wrong with a roster of which the program reports no other fault than this first breach, and what can be done."""
+def asked_texts(asks: Asks, texts: Texts) -> Texts:
+    """The texts with all that is asked for. The roster is the one that is there."""
+    return Asked(asks).added_to(texts, with_duties=False)
+
+
+def of_roster(roster: Program, plan: Plan, texts: Texts, asks_of: AsksOf, line: str) -> tuple[list[Finding], str]:
+    """What is wrong with a roster of which the program reports no other fault than this first breach, and what can be done. With
+    asks it is held to the rules with these, too."""
     broken = breaches.all_breaches(plan)
     first = broken[0].line if broken else "nothing"
     if first != line:
         raise DeskError(f"'roster cost' says '{line}', and the desk '{first}'; this is a fault of the desk", 3)
-    misplaced = out_of_place(plan.words, plan.bundle.solutions)
-    found = misplaced + breach_findings(plan, broken) + failed(plan, asks_of(plan), len(texts.joined))
+    misplaced, wanted, more = out_of_place(plan.words, plan.bundle.solutions), asks_of(plan), ""
+    if wanted and wanted.asks_anything:
+        asked = asked_texts(wanted, texts)
+        # (the places are those of the texts that were given)
+        plan = dataclasses.replace(plan, case=program.plan_in(asked).case)
+        broken, answer = breaches.all_breaches(plan), roster.call(["cost"], asked.joined)
+        last = answer.output.decode().splitlines()[-1] if answer.status == 0 else answer.last()
+        more = f"; with what is asked for: {last}"
+    # (an absence that is asked for is reported at the line that asks)
+    asked_for = wanted.days_of(*AWAY) if wanted else {}
+    of_texts = [breach for breach in broken if breach.rule != "absent" or (breach.nurse, breach.day) not in asked_for]
+    found = misplaced + breach_findings(plan, of_texts) + failed(plan, wanted, len(texts.joined))
     can_be_repaired = all(breaches.can_be_repaired(plan, breach) for breach in broken)
-    return found, PLAN if broken and not misplaced and can_be_repaired else ""
+    return found, more + (PLAN if broken and not misplaced and can_be_repaired else "")
 
 
 def of_shortages(plan: Plan, texts: Texts, asks_of: AsksOf) -> tuple[list[Finding], str]:
@@ -246,9 +263,20 @@ def of_shortages(plan: Plan, texts: Texts, asks_of: AsksOf) -> tuple[list[Findin
     return found, "" if found else "; there is no roster yet, and 'desk improve --plan' can make one"
 
 
+def of_staff(plan: Plan) -> list[Finding]:
+    """A warning if the contracts allow fewer assignments than the minimums need, over all weeks."""
+    short = shortage.short_over_all(plan)
+    return (
+        [of_words(plan.words, plan.bundle.scenario[b"CONTRACTS"].at, plan.bundle.scenario[b"CONTRACTS"].at, f"warning: {short}")]
+        if short
+        else []
+    )
+
+
 def summary(texts: Texts, answer: Answer, counts: str) -> str:
     """The last line: how much is wrong, and what the program says by itself."""
-    files = plural(sum(text.kind != NO_SOLUTIONS for text in texts.texts), "file")
+    files = plural(sum(text.kind != NO_SOLUTIONS for text in texts.texts), "text" if texts.ward else "file")
+    files = f"{shown(texts.ward)}: {files}" if texts.ward else files
     if answer.status:
         said = f"; 'roster cost' says: {program.located(answer.last(), texts)}"
     elif texts.texts[-1].kind == NO_SOLUTIONS:

@@ -1,142 +1,33 @@
 """The desk's command line: its commands, their options, and how errors are reported."""
 import argparse
-import collections.abc
 import dataclasses
-import datetime
 import os
 import sys
 import typing
 
 from desk_lib import commands as does
-from desk_lib import given, options, polish, program, signals
-from desk_lib.days import is_day, monday_in
+from desk_lib import given, options, program, signals
+from desk_lib.findings import nearest
 from desk_lib.helps import ABOUT, CHECK, FILES, IMPROVE, NEXT, SWAP, WEEKS, WHO
 from desk_lib.options import Common, Options
-from desk_lib.texts import KINDS, DeskError, shown
+from desk_lib.parsing import Commands, Formatter, Parser, Run, command, number_in, with_carry, with_files, with_first_week
+from desk_lib.parsing import with_force, with_other, with_out, with_polish
+from desk_lib.texts import DeskError, shown
+from desk_lib.ward import options as ward_options
+from desk_lib.ward import words as ward_words
+from desk_lib.ward.naming import is_ward
 
-# How many seeds are taken at once, at most.
-MOST_SEEDS = 1000
-# What a command does: its function, which takes its own options.
-Run = collections.abc.Callable[[typing.Any, given.Given, program.Program], int]
-
-
-def number_in(least: int, greatest: int) -> collections.abc.Callable[[str], int]:
-    """Reads a number of a range."""
-
-    def number(word: str) -> int:
-        if not (word.isascii() and word.isdigit() and len(word) < 12 and least <= int(word) <= greatest):
-            raise argparse.ArgumentTypeError(f"'{shown(word)}' is no number from {least} to {greatest}")
-        return int(word)
-
-    return number
-
-
-def start_in(word: str) -> datetime.date:
-    """Reads a date, which has to be a Monday."""
-    try:
-        return monday_in(word)
-    except DeskError as why:
-        raise argparse.ArgumentTypeError(str(why)) from None
-
-
-def since_in(word: str) -> str:
-    """Reads the first week that may change, or the day that is today, which is looked up once the first Monday is known."""
-    return word if is_day(os.fsencode(word)) and ".." not in word else str(number_in(0, 52)(word))
-
-
-def seeds_in(word: str) -> list[int]:
-    """Reads the first and the last of several seeds, as 1-8."""
-    ends = word.split("-")
-    seed = number_in(0, polish.SEEDS - 1)
-    first, last = (seed(end) for end in ends) if len(ends) == 2 else (1, 0)
-    if not first <= last < first + MOST_SEEDS:
-        message = f"'{shown(word)}' isn't the first and the last of at most {MOST_SEEDS} seeds, as 1-8"
-        raise argparse.ArgumentTypeError(message)
-    return [*range(first, last + 1)]
-
-
-class Parser(argparse.ArgumentParser):
-    """Reports in one line what is wrong."""
-
-    def parse_known_args(self, args: typing.Any = None, namespace: typing.Any = None) -> typing.Any:
-        for word in args or ():
-            if word[:1] == "-" and f"-{word.partition('=')[0]}" in self._option_string_actions:
-                self.error(f"{word}: an option has two dashes; write -{word}")
-        return super().parse_known_args(args, namespace)
-
-    def error(self, message: str) -> typing.NoReturn:
-        raise DeskError(f"{shown(message)}; '{self.prog} --help' shows how", 2)
-
-
-if typing.TYPE_CHECKING:
-    Commands = argparse._SubParsersAction[Parser]
-
-
-def with_files(parser: argparse.ArgumentParser) -> None:
-    """Adds what all commands take: the files; and, if the command writes any, whether these may be replaced."""
-    if parser.get_default("kind").WRITES:
-        parser.add_argument("--force", action="store_true", help="replace files that are there, whatever they are")
-    files = parser.add_argument_group("the files", "in the program's order, or by four options in any order")
-    files.add_argument("files", nargs="*", metavar="FILE", help="scenario, history, week data and solutions, in this order")
-    helps = {
-        "sce": "the scenario",
-        "his": "the history",
-        "weeks": "the week data, from the first week on",
-        "sols": "the solutions, from the first week on, in one file or in several",
-    }
-    for kind in KINDS:
-        count: int | str = 1 if kind in ("sce", "his") else "+"
-        files.add_argument(f"--{kind}", nargs=count, action="extend", metavar="FILE", help=helps[kind])
-    parser.add_argument("--asks", metavar="FILE", help="absences, duties, needs and the like (below)")
-    parser.add_argument(
-        "--start", type=start_in, metavar="DATE", help="the Monday of week 0, as 2026-11-02: days may be dates, and dates are shown"
-    )
-    parser.add_argument("--roster", metavar="PROGRAM", help="the program roster, if it isn't that of this repository")
-
-
-def with_other(parser: argparse.ArgumentParser, more: str) -> None:
-    parser.add_argument(
-        "--with",
-        dest="other",
-        action="append",
-        metavar="FILE",
-        help=f"a second roster for the same texts, its solutions alone: {more}",
-    )
-
-
-def with_first_week(parser: argparse.ArgumentParser, use: str) -> None:
-    more = f"{use}; a day, as 1:Wed, or its date names its week, and is 'today' as by a line of --asks"
-    parser.add_argument("--from", dest="since", type=since_in, default="0", metavar="V", help=more)
-
-
-def command(
-    commands: "Commands", name: str, run: Run, kind: type[Options], summary: str, more: str = ""
-) -> argparse.ArgumentParser:
-    """A command of the desk, with the kind of its options."""
-    described = f"{summary[0].upper()}{summary[1:]}.{more}"
-    parser = commands.add_parser(
-        name, help=summary, description=described, epilog=FILES, formatter_class=Formatter, allow_abbrev=False
-    )
-    parser.set_defaults(run=run, kind=kind)
-    return parser
-
-
-class Formatter(argparse.RawDescriptionHelpFormatter):
-    """Help in the lines in which it is written, 110 letters wide wherever it is read."""
-
-    def __init__(self, prog: str) -> None:
-        super().__init__(prog, max_help_position=24, width=110)
+# The commands whose first word is a ward in any case.
+WARD_FIRST = frozenset("new ask asks unask shifts repair take publish versions undo redo diff backup export".split())
 
 
 def add_improve(commands: "Commands") -> None:
     summary = "makes rounds one at a time, and keeps the best roster so far in a file"
     parser = command(commands, "improve", does.run_improve, options.ImproveOptions, summary, IMPROVE)
     parser.add_argument(
-        "--out", required=True, metavar="FILE", help="the file of the roster; replaced at once after each round"
+        "--out", metavar="FILE", help="the file of the roster; replaced at once after each round. A ward needs none"
     )
-    parser.add_argument(
-        "--rounds", type=number_in(0, 1000), metavar="N", help="make at most N rounds (100 if not given)"
-    )
+    parser.add_argument("--rounds", type=number_in(0, 1000), metavar="N", help="make at most N rounds (100 if not given)")
     parser.add_argument(
         "--plan",
         action="store_true",
@@ -148,6 +39,8 @@ def add_improve(commands: "Commands") -> None:
         help="repair the roster by the fewest changed days that are found: it may break what --plan may, and the other"
         " rosters that are found are reported",
     )
+    chosen = "with --few: the roster of this number among those that are found; the same options find the same ones"
+    parser.add_argument("--candidate", type=number_in(1, 99), metavar="N", help=chosen)
     keep = "each day on which a nurse has another shift than in the roster given, or is off, costs N more, 0 to 100"
     parser.add_argument("--keep", type=number_in(0, 100), metavar="N", help=keep)
     with_first_week(parser, "the days before week V stay as they are")
@@ -160,29 +53,6 @@ def add_improve(commands: "Commands") -> None:
     with_polish(parser)
     parser.add_argument("--log", metavar="FILE", help="write the log to this file, too; 'page --log' draws it")
     with_files(parser)
-
-
-def with_polish(parser: argparse.ArgumentParser) -> None:
-    """Adds how long is searched after the rounds, and by which seeds."""
-    searches = number_in(1, polish.MOST_SEARCHES)
-    parser.add_argument("--polish", type=searches, metavar="N", help="then go on with 'roster polish', N searches in a run")
-    parser.add_argument(
-        "--seconds",
-        type=number_in(1, 1_000_000),
-        metavar="N",
-        help="end after N seconds, once the first round is made; with --polish or earlier, and else go on with 'roster polish'",
-    )
-    seed = number_in(0, polish.SEEDS - 1)
-    parser.add_argument("--seed", type=seed, metavar="S", help="the seed of polish (1 if not given)")
-    parser.add_argument(
-        "--seeds",
-        type=seeds_in,
-        metavar="A-B",
-        help="a run of polish by each seed from A to B, as many at once as there are processors; the cheapest roster is"
-        " kept, and the log has what each comes to",
-    )
-    of_slice = "searches of a slice (as many as take some 3 seconds if not given)"
-    parser.add_argument("--slice", type=searches, metavar="M", help=of_slice)
 
 
 def add_looks(commands: "Commands") -> None:
@@ -229,6 +99,7 @@ def add_shifts(commands: "Commands") -> None:
     parser.add_argument("other_nurse", metavar="B", help="another one")
     parser.add_argument("day", metavar="DAYS", help="the days, as 1:Tue 1:Fri or 1:Tue..1:Thu")
     parser.add_argument("--out", metavar="FILE", help="the file of the roster with the swap")
+    parser.add_argument("--take", action="store_true", help="with a ward: the roster with the swap becomes the working one")
     with_first_week(parser, "the weeks before V are frozen")
     with_files(parser)
 
@@ -242,6 +113,7 @@ def add_pages(commands: "Commands") -> None:
     parser.add_argument("--title", metavar="TEXT", help="what stands above it; else the name of the scenario")
     parser.add_argument("--notice", action="store_true", help="for the wall: without penalties, minimums and requests")
     parser.add_argument("--nurse", metavar="NAME", help="the month of this nurse alone")
+    parser.add_argument("--months", action="store_true", help="the months of all nurses one after the other, to print")
     parser.add_argument("--log", metavar="FILE", help="the log of improve: its penalty is drawn")
     parser.add_argument("--bound", action="store_true", help="ask 'roster bound' for a lower bound, and show it")
     with_out(parser)
@@ -288,18 +160,6 @@ def add_texts(commands: "Commands") -> None:
     with_files(parser)
 
 
-def with_carry(parser: argparse.ArgumentParser) -> None:
-    parser.add_argument("--carry", action="store_true", help="with the totals up to now; else they are 0")
-
-
-def with_out(parser: argparse.ArgumentParser) -> None:
-    parser.add_argument("--out", metavar="FILE", help="the file to write; else standard output")
-
-
-def with_force(parser: argparse.ArgumentParser) -> None:
-    parser.add_argument("--force", action="store_true", help="replace the files that are there")
-
-
 def parser_of() -> argparse.ArgumentParser:
     parser = Parser(prog="desk", description=ABOUT, epilog=FILES, formatter_class=Formatter, allow_abbrev=False)
     parser.add_argument("--version", action="store_true", help="print the version of roster")
@@ -311,19 +171,40 @@ def parser_of() -> argparse.ArgumentParser:
     add_pages(commands)
     add_improve(commands)
     add_texts(commands)
+    ward_words.add_ward(commands)
+    ward_words.add_rosters(commands)
+    ward_words.add_versions(commands)
     return parser
 
 
 def parsed(words: list[str]) -> tuple[Run, Options]:
     """The command that the words name, and its options."""
     parser = parser_of()
-    asked, more = parser.parse_known_args(words)
-    if any(word.startswith("-") for word in more):
-        parser.error(f"unrecognized arguments: {' '.join(more)}")
-    # (files after an option are files, too)
-    values = vars(asked) | {"files": [*asked.files, *more]}
+    asked, more = parser.parse_known_args(with_ward_last(words))
+    for word in (word for word in more if word.startswith("-")):
+        names = {"other": "with", "since": "from"}
+        options = {f"--{names.get(name, name)}" for name in vars(asked)} - {"--run", "--kind", "--files", "--version"}
+        like = nearest(os.fsencode(word), map(os.fsencode, options))
+        raise DeskError(f"'{words[0]}' takes no option '{shown(word)}'{like}; 'desk {words[0]} --help' shows how", 2)
+    # (what a command hasn't)
+    values: dict[str, typing.Any] = dict.fromkeys(("sce", "his", "weeks", "sols", "asks", "start", "roster"))
+    values |= vars(asked)
+    if issubclass(asked.kind, ward_options.WardOptions) and "files" not in values:
+        if more:
+            parser.error(f"unrecognized arguments: {' '.join(more)}")
+        values["files"] = [asked.ward]
+    else:
+        # (files after an option are files, too)
+        values["files"] = [*values["files"], *more]
     common = Common(**named(Common, values))
     return asked.run, asked.kind(common, **named(asked.kind, values))
+
+
+def with_ward_last(words: list[str]) -> list[str]:
+    """The words of a command that takes files, with a ward that stands right after the command in the place of the files."""
+    if len(words) > 2 and words[0] not in WARD_FIRST and not words[1].startswith("-") and is_ward(words[1]):
+        return [words[0], *words[2:], words[1]]
+    return words
 
 
 def named(kind: type, values: dict[str, typing.Any]) -> dict[str, typing.Any]:
@@ -337,7 +218,10 @@ def run(words: list[str]) -> int:
         return 0
     run_command, asked = parsed(words)
     given.check_written(asked)
-    return run_command(asked, given.settled(asked), program.find(asked.common.roster))
+    on = given.settled(asked)
+    # (what needs no program doesn't look for one)
+    roster = program.find(asked.common.roster) if asked.NEEDS_PROGRAM else program.Program("")
+    return run_command(asked, on, roster)
 
 
 def main(words: list[str]) -> int:

@@ -1,13 +1,30 @@
 """The commands of the desk: each takes its options, what they give and the program, and returns the status."""
 import os
+import re
 import time
 
-from desk_lib import asked_texts, breaches, calendar_file, check, grid, improve, lower_bound, near, next_month, outputs, page
+from desk_lib import (
+    asked_texts,
+    asks,
+    balances,
+    breaches,
+    calendar_file,
+    check,
+    days,
+    grid,
+    improve,
+    lower_bound,
+    near,
+    next_month,
+    outputs,
+    page,
+)
 from desk_lib import plot, polish, program, replacing, shortage, split, swap, tables, views, who
 from desk_lib.costs import Costing
 from desk_lib.days import day_in, days_in
 from desk_lib.given import SOLUTIONS, Given, asks_of, both_plans, costings, files_read, reported_asks, texts_of, write
 from desk_lib.given import write_bytes, write_text
+from desk_lib.case import Roster
 from desk_lib.model import Plan
 from desk_lib.options import ChangesOptions, CheckOptions, CostsOptions, CsvOptions, GridOptions, HistoryOptions, IcsOptions
 from desk_lib.options import ImproveOptions, NextOptions, Options, PageOptions, SplitOptions, SwapOptions, WeeksOptions
@@ -19,7 +36,7 @@ from desk_lib.why import nurse_in, why_lines
 
 
 def run_check(options: CheckOptions, given: Given, roster: Program) -> int:
-    lines, status = check.check(roster, texts_of(options), lambda plan: reported_asks(given, plan))
+    lines, status = check.check(roster, texts_of(given), lambda plan: reported_asks(given, plan))
     write(lines)
     return status
 
@@ -28,18 +45,19 @@ def run_costs(options: CostsOptions, given: Given, roster: Program) -> int:
     if options.common.since != "0" and not options.bound:
         raise DeskError("--from: this is of the lower bound; ask for one by --bound", 2)
     pairs = both_plans(given, roster)
-    *before, costing = costings(options, roster, pairs, options.common.other is not None)
+    *before, costing = costings(options, roster, pairs, options.common.other is not None or given.ward is not None)
     old = before[0] if before else None
     bound = bound_by(roster, pairs[-1][0], given.first_week) if options.bound else None
-    broken = breaches.all_breaches(old.plan) if old else []
+    broken = breaches.all_breaches(old.plan) if old else breaches.all_breaches(costing.plan) if given.ward else []
     for line in breaches.breach_lines(broken):
         program.warn(line)
     if broken:
-        program.warn(f"so the first roster breaks {plural(len(broken), 'hard rule')}, which no cost has a part of")
+        which = "the first roster" if old else "the roster"
+        program.warn(f"so {which} breaks {plural(len(broken), 'hard rule')}, which no cost has a part of")
     if options.json:
         write([tables.json_text(costing, old, bound)])
         return 0
-    lines = tables.cost_lines(costing, old)
+    lines = tables.cost_lines(costing, old, balances_of(given, costing, old.plan.before if old else None).lines())
     if bound is not None:
         lines += lower_bound.lines(costing.penalty, bound, has_frozen(given.first_week, costing.plan))
     write(lines)
@@ -51,7 +69,19 @@ def sheet_of(given: Given, roster: Program) -> tuple[Sheet, Costing | None, Text
     pairs = both_plans(given, roster)
     *before, costing = costings(given.options, roster, pairs, may_break=True)
     old = before[0] if before else None
-    return Sheet(costing, old.plan.roster if old else None, given.first_week, given.start), old, pairs[-1][0]
+    was = old.plan.before if old else published_before(given, costing.plan)
+    sheet = Sheet(costing, was, given.first_week, given.start, given.held.published)
+    return sheet, old, pairs[-1][0]
+
+
+def published_before(given: Given, plan: Plan) -> Roster | None:
+    """The roster that a ward published, if it published one."""
+    if given.ward is None or given.ward.state.publication is None:
+        return None
+    # (other commands start the quicker without this import)
+    from desk_lib.ward.rosters import published_roster
+
+    return published_roster(given.ward, plan)
 
 
 def run_grid(options: GridOptions, given: Given, roster: Program) -> int:
@@ -66,15 +96,40 @@ def run_page(options: PageOptions, given: Given, roster: Program) -> int:
     bound = bound_by(roster, texts, given.first_week) if options.bound else None
     nurse = None if options.nurse is None else nurse_in(sheet.costing.plan, options.nurse)
     title = f"Roster {shown(sheet.case.name)}" if options.title is None else options.title
-    wanted = page.Wanted(title, roster.version(), options.notice, nurse)
+    if nurse is not None and options.months:
+        raise DeskError("--nurse names one nurse, and --months is of all; give one of the two", 2)
+    looks = colours_of(given, sheet.costing.plan), balances_of(given, sheet.costing, before.plan.before if before else None)
+    wanted = page.Wanted(title, roster.version(), options.notice, nurse, options.months, *looks)
     write_text(options.out, page.Page(sheet, before, log, bound, wanted).text())
     return 0
 
 
+def colours_of(given: Given, plan: Plan) -> tuple[tuple[int, str], ...]:
+    """The colours that a ward gives to its shifts."""
+    chosen = {shift.name: shift.colour for shift in given.ward.state.input.shifts} if given.ward else {}
+    colours = [(number, chosen.get(shift.name, "")) for number, shift in enumerate(plan.case.shifts)]
+    return tuple((number, colour) for number, colour in colours if colour)
+
+
+def balances_of(given: Given, costing: Costing, before: Roster | None) -> balances.Balances:
+    """What each nurse has had, with the changes of a roster before; a ward also knows the months before, and what was published."""
+    if given.ward is None:
+        plan = costing.plan
+        changes = [sum(was != now for was, now in zip(*rows)) for rows in zip(before or plan.roster, plan.roster)]
+        return balances.Balances(balances.of_month(costing, balances.night_shifts(plan, {}), changes), {})
+    # (other commands start the quicker without this import)
+    from desk_lib.ward.balances import balances_of as of_ward
+
+    return of_ward(given.ward, costing)
+
+
 def run_changes(options: ChangesOptions, given: Given, roster: Program) -> int:
-    if not options.common.other:
-        raise DeskError("changes: --with names the second roster", 2)
     sheet, _, _ = sheet_of(given, roster)
+    if given.ward and not sheet.is_compared:
+        message = f"{shown(given.ward.name)}: nothing is published yet, so nothing has changed since"
+        raise DeskError(f"{message}; 'desk publish {shown(given.ward.name)}' publishes the roster")
+    if not (options.common.other or given.ward):
+        raise DeskError("changes: --with names the second roster", 2)
     write(views.change_lines(sheet))
     return 0
 
@@ -129,6 +184,8 @@ def check_near(options: ImproveOptions) -> None:
         if given:
             raise DeskError(f"{message}; leave {' and '.join(given)} out", 2)
 
+    if options.candidate is not None and not options.few:
+        raise DeskError("--candidate: this is one of the rosters that --few finds; give that, too", 2)
     if options.few:
         several = "--few: it asks 'roster plan' with several --keep, by one seed"
         leave_out(several, "plan", "rounds", "keep", "bound", "seeds", "slice")
@@ -142,18 +199,42 @@ def check_near(options: ImproveOptions) -> None:
 def run_improve(options: ImproveOptions, given: Given, roster: Program) -> int:
     check_search(options)
     check_near(options)
+    if given.ward:
+        check_of_ward(options, given.ward.name)
+        from desk_lib.ward import rosters
+
+        return rosters.improved(options, given, roster)
+    if not options.out:
+        raise DeskError("improve: --out names the file of the roster, as --out better.txt; only a ward needs none", 2)
+    improved(options, given, roster, improve.Out(options.out, options.out))
+    return 0
+
+
+def check_of_ward(options: ImproveOptions, name: str) -> None:
+    """Refuses options that are of files."""
+    if options.out:
+        message = f"--out {shown(options.out)}: the roster of {shown(name)} is kept in it; 'desk export' writes files"
+        raise DeskError(f"{message}. Leave --out away", 2)
+    if options.few:
+        raise DeskError(f"--few: with a ward 'desk repair {shown(name)}' looks for few changes", 2)
+
+
+def improved(
+    options: ImproveOptions, given: Given, roster: Program, out: improve.Out, kept: list[improve.Run] | None = None
+) -> None:
+    """Makes a run, whose roster is in a file at the end. What is begun is put into the list, whatever ends it."""
     end = None if options.seconds is None else time.monotonic() + options.seconds
     [(texts, plan)] = both_plans(given, roster)
     is_planned, is_polished = options.plan or options.few, options.polish is not None or end is not None
     for command in ["plan"] * is_planned + ["polish"] * is_polished:
         roster.must_know(command)
-    if given.first_week >= plan.case.weeks:
-        message = f"--from {given.first_week}: the roster has {plural(plan.case.weeks, 'week')}, so all days are frozen"
-        program.warn(f"{message}, and nothing can change")
+    warn_of_frozen(given, plan)
     if is_planned:
-        check_shortages(plan, given.first_week)
-    run = run_of(options, given.first_week, roster, texts, plan)
-    seeds, lines = options.seeds or [1 if options.seed is None else options.seed], []
+        check_shortages(plan, given.first_week, given.ward.name if given.ward else "")
+    run = run_of(options, given.first_week, roster, texts, plan, out)
+    if kept is not None:
+        kept.append(run)
+    seeds, lines = seeds_of(options), []
     wanted = asks_of(given, plan)
 
     def work() -> None:
@@ -163,26 +244,45 @@ def run_improve(options: ImproveOptions, given: Given, roster: Program) -> int:
     failed = wanted.failed(program.plan_in(run.texts()).roster) if wanted else []
     for line in [*lines, *failed]:
         program.warn(line)
-    return 0
 
 
-def check_shortages(plan: Plan, first_week: int) -> None:
-    """Stops if no roster can keep the minimums, whatever is searched, and says why."""
+def seeds_of(options: ImproveOptions) -> list[int]:
+    return options.seeds or [1 if options.seed is None else options.seed]
+
+
+def warn_of_frozen(given: Given, plan: Plan) -> None:
+    """Says so if no day may change."""
+    days = given.held.published
+    if given.ward and days >= plan.days:
+        message = f"{shown(given.ward.name)} is published to its last day, so nothing can change"
+        program.warn(f"{message}; 'desk repair' changes published days, by few changes")
+    elif given.first_week >= plan.case.weeks:
+        message = f"--from {given.first_week}: the roster has {plural(plan.case.weeks, 'week')}, so all days are frozen"
+        program.warn(f"{message}, and nothing can change")
+
+
+def check_shortages(plan: Plan, first_week: int, ward: str = "") -> None:
+    """Stops if no roster can keep the minimums, whatever is searched, and says why; and how they are lowered, in the ward of this name if
+    it is one."""
+    over_all = shortage.short_over_all(plan)
+    if over_all:
+        program.warn(f"warning: {over_all}")
     found = shortage.shortages(plan, first_week)
     for short in found:
         program.warn(short.line(plan.case))
     if found:
         days = plural(len({short.day for short in found}), "day")
         message = f"on {days} fewer can come than the minimums need, so no roster keeps them, and none was looked for"
-        raise DeskError(f"{message}; lower them by these lines 'need' in the text of --asks")
+        how = f"these asks, as 'desk ask {shown(ward)} \"need ..\"'" if ward else "these lines 'need' in the text of --asks"
+        raise DeskError(f"{message}; lower them by {how}")
 
 
-def run_of(options: ImproveOptions, first_week: int, roster: Program, texts: Texts, plan: Plan) -> improve.Run:
+def run_of(options: ImproveOptions, first_week: int, roster: Program, texts: Texts, plan: Plan, out: improve.Out) -> improve.Run:
     """A run that begins with the roster of the texts."""
     bound_search = lower_bound.BoundSearch(first_week, has_frozen(first_week, plan))
-    run = improve.Run(roster, plan, texts, options.out, improve.Progress(options.log, bound_search), options.keep)
+    run = improve.Run(roster, plan, texts, out, improve.Progress(options.log, bound_search), options.keep)
     for text in texts.texts:
-        if outputs.identity(text.name) == outputs.identity(options.out):
+        if outputs.identity(text.name) == outputs.identity(out.path):
             # (it may have changed since it was read)
             run.there = text.read
     return run
@@ -191,7 +291,7 @@ def run_of(options: ImproveOptions, first_week: int, roster: Program, texts: Tex
 def search(options: ImproveOptions, run: improve.Run, seeds: list[int], end: float | None) -> list[str]:
     """All that `improve` makes, one after the other. Returns the lines for the end."""
     if options.few:
-        return near.repair(run, options.polish, seeds[0], end)
+        return near.repair(run, options.polish, seeds[0], end, options.candidate or 1)
     rounds = 100 if options.rounds is None else options.rounds
     if options.plan:
         run.plan(options.polish, seeds[0], end)
@@ -220,11 +320,16 @@ def run_who(options: WhoOptions, given: Given, roster: Program) -> int:
 
 
 def run_swap(options: SwapOptions, given: Given, roster: Program) -> int:
+    if options.take and options.out:
+        raise DeskError("--take keeps the roster in the ward, and --out writes it into a file; give one of the two", 2)
     if options.out == "-":
         message = "--out -: the roster goes into a file, and what the swap costs to standard output; give the name of a file"
         raise DeskError(message, 2)
     words, files = swap.days_and_files(options.day, options.common.files)
-    [(texts, plan)] = both_plans(given.with_files(files), roster)
+    given = given.with_files(files)
+    if options.take and not given.ward:
+        raise DeskError("--take: this is of a ward; --out names the file of the roster", 2)
+    [(texts, plan)] = both_plans(given, roster)
     nurses = swap.nurses_in(plan, options.nurse, options.other_nurse)
     swapped = swap.Swap(roster, texts, plan, nurses, days_in(words, plan.case.weeks, given.start), given.first_week)
     write(swapped.lines())
@@ -233,6 +338,11 @@ def run_swap(options: SwapOptions, given: Given, roster: Program) -> int:
         raise refused
     if options.out:
         swapped.write(options.out)
+    if options.take:
+        from desk_lib.ward import rosters
+
+        who = f"{options.nurse} and {options.other_nurse}, {b' '.join(words).decode('utf-8', 'replace')}"
+        rosters.take_swapped(given, roster, swapped.solutions(), who)
     return 0
 
 
@@ -243,32 +353,53 @@ def run_history(options: HistoryOptions, given: Given, roster: Program) -> int:
 
 
 def run_next(options: NextOptions, given: Given, roster: Program) -> int:
-    if options.common.asks:
-        raise DeskError("next: --asks is of this month, and the next one has this month's needs; leave it out", 2)
-    [(texts, plan)] = both_plans(given, roster)
-    files = next_month.next_files(plan, texts, options.folder, options.carry)
+    if given.ward:
+        # (other commands start the quicker without this import)
+        from desk_lib.ward.months import run_next_ward
+
+        return run_next_ward(options, given, roster)
+    texts = in_order(texts_of(given))
+    plan = program.taken(roster, texts)
+    wanted = reported_asks(given, plan)
+    left = next_month.gone_at_the_end(plan, wanted.gone) if wanted else set()
+    files = next_month.next_files(plan, texts, options.folder, options.carry, left)
     check_names(options, "FOLDER", [name for name, _ in files])
     make_folder(options.folder)
     next_month.write_next(roster, plan, files)
+    if left:
+        program.warn(
+            f"left out, since gone at the end: {', '.join(shown(plan.case.nurses[number].name) for number in sorted(left))}"
+        )
     write(shown(name) for name, _ in files)
     return 0
 
 
+def in_order(texts: Texts) -> Texts:
+    """The texts with solutions of single files in the order of their weeks."""
+    weeks = [(text, re.match(rb"\s*SOLUTION\s+(\d{1,3})\s", text.data)) for text in texts.texts]
+    found = [(int(match[1]), text) for text, match in weeks if match]
+    if len(found) < 2 or any(match is None for _, match in weeks[-len(found) :]):
+        return texts
+    return Texts([*texts.texts[: -len(found)], *(text for _, text in sorted(found, key=lambda of: of[0]))])
+
+
 def run_ics(options: IcsOptions, given: Given, roster: Program) -> int:
-    start = given.start
-    if start is None:
-        raise DeskError("ics: --start names the Monday of week 0, as 2026-11-02", 2)
     nurse, folder = options.nurse, options.all
     if folder and nurse is not None:
         # (the word is the first of the files)
         given, nurse = given.with_files([nurse, *options.common.files]), None
     elif not folder and nurse is None:
         raise DeskError("ics: name a nurse, or by --all a folder for the calendars of all nurses", 2)
+    start = given.start
+    if start is None:
+        raise DeskError("ics: --start names the Monday of week 0, as 2026-11-02", 2)
     if folder and options.out:
         raise DeskError("ics: --all names a folder and --out a file; give one of the two", 2)
     [(_, plan)] = both_plans(given, roster)
-    times = dict(calendar_file.times_in(word, plan) for word in options.time or ())
-    calendar = calendar_file.Calendar(plan, start, times, page.now())
+    shifts = given.ward.state.input.shifts if given.ward else ()
+    known = [f"{os.fsdecode(shift.name)}={shift.begins}-{shift.ends}" for shift in shifts if shift.begins]
+    times = dict(calendar_file.times_in(word, plan) for word in [*known, *(options.time or ())])
+    calendar = calendar_file.Calendar(plan, start, times, days.now())
     if nurse is not None:
         write_bytes(options.out, calendar.of_nurse(nurse_in(plan, nurse)))
     elif folder:
@@ -300,13 +431,21 @@ def run_split(options: SplitOptions, given: Given, roster: Program) -> int:
 
 
 def run_weeks(options: WeeksOptions, given: Given, roster: Program) -> int:
-    texts = texts_of(options)
+    texts = texts_of(given)
     plan = program.taken(roster, texts)
     names, scenario = split.names(options.prefix, plan.case.weeks), f"{options.prefix}-scenario.txt"
     wanted = reported_asks(given, plan)
     check_names(options, "PREFIX", [*names, *([scenario] if wanted and wanted.gone else [])])
     if not wanted:
         raise DeskError("weeks: --asks names the text of absences and pins", 2)
+    for ask in wanted.asks:
+        if ask.kind == "duty" and not all(ask.is_met(day, plan.roster[ask.nurse][day]) for day in ask.days):
+            name = shown(plan.case.nurses[ask.nurse].name)
+            message = (
+                f"duty {name}: the roster given hasn't this duty, and week data with it would fix what the roster has instead"
+            )
+            how = "make a roster with it first ('desk improve --few' with these asks), and give that one"
+            raise DeskError(f"{asks.place(wanted.text, ask.line)}: {message}; {how}")
     write(map(shown, asked_texts.write_weeks(roster, wanted, texts, names, scenario)))
     return 0
 

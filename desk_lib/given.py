@@ -5,17 +5,23 @@ import datetime
 import errno
 import os
 import sys
+import typing
 
 from desk_lib import breaches, check, outputs, program, replacing, table_in
 from desk_lib.asked_texts import Asked
-from desk_lib.asks import Asks, start_in
+from desk_lib.asks import Asks, Held, start_in
 from desk_lib.costs import Costing
-from desk_lib.days import DATE, day_of
+from desk_lib.days import DATE, Calendar, day_of, is_day
 from desk_lib.grammar import WORD
 from desk_lib.model import Plan, with_no_solutions
 from desk_lib.options import CheckOptions, ImproveOptions, Options
 from desk_lib.program import Program
 from desk_lib.texts import DeskError, Text, Texts, plural, read_file, shown
+from desk_lib.ward import naming
+from desk_lib.ward import texts as ward_texts
+
+if typing.TYPE_CHECKING:
+    from desk_lib.ward.store import Ward
 
 # What solutions are among the files that are read.
 SOLUTIONS = "the file of --sols"
@@ -72,11 +78,19 @@ class Given:
     start: datetime.date | None
     today: bytes
     first_week: int
+    # (the ward that stands in the place of the files, if one does)
+    ward: "Ward | None" = None
 
     def with_files(self, files: list[str]) -> "Given":
         """The same with other files: some of the words were none."""
         common = dataclasses.replace(self.options.common, files=files)
-        return dataclasses.replace(self, options=dataclasses.replace(self.options, common=common))
+        return settled(dataclasses.replace(self.options, common=common))
+
+    @property
+    def held(self) -> Held:
+        """What no ask may change."""
+        published = self.ward.state.publication if self.ward and not self.options.CHANGES_PUBLISHED else None
+        return Held(self.first_week, published.days if published else 0)
 
 
 def files_read(options: Options) -> list[outputs.Named]:
@@ -98,7 +112,7 @@ def check_written(options: Options) -> None:
         for option in [option for option, name, _ in written if name == "-"]:
             raise DeskError(f"{option} -: this is no file, and can't be written again and again; give the name of one", 2)
         solutions = [named for named in read if named[0] == SOLUTIONS]
-        if len(solutions) == 1 and outputs.identity(solutions[0][1]) == outputs.identity(options.out):
+        if options.out and len(solutions) == 1 and outputs.identity(solutions[0][1]) == outputs.identity(options.out):
             read.remove(solutions[0])
     outputs.refuse_inputs([(option, name) for option, name, _ in written], read)
     for option, name, kind in written:
@@ -106,8 +120,33 @@ def check_written(options: Options) -> None:
             outputs.refuse_unrelated(option, name, kind)
 
 
-def texts_of(options: Options) -> Texts:
-    """The files that the command line names, or standard input."""
+def ward_in(options: Options) -> "Ward | None":
+    """The ward that the command line names in the place of the files, if it does."""
+    wards = [name for name in options.common.files if naming.is_ward(name)]
+    if not wards:
+        return None
+    # (the words of a swap's days stand before the files)
+    files = [name for name in options.common.files if not is_day(os.fsencode(name)) or os.path.lexists(name)]
+    others = [name for name in files if name != wards[0]] + [name for names in options.common.by_kind.values() for name in names]
+    if others or len(wards) > 1:
+        message = f"{shown(wards[0])}: a ward stands in the place of all files, and {shown((others or wards)[0])} is given, too"
+        raise DeskError(f"{message}; leave that out", 2)
+    if options.common.asks:
+        message = f"--asks {shown(options.common.asks)}: a ward has its asks in it; 'desk ask {shown(wards[0])} LINE' adds one"
+        raise DeskError(message, 2)
+    # (a start of the desk is the quicker without this import)
+    from desk_lib.ward.store import read_ward
+
+    return read_ward(wards[0])
+
+
+def texts_of(given: Given) -> Texts:
+    """The texts of the ward, or the files that the command line names, or standard input."""
+    if given.ward:
+        texts = ward_texts.texts_of(given.ward, given.options.may_lack_solutions)
+        texts.ward = given.ward.name
+        return texts
+    options = given.options
     by_kind = options.common.by_kind
     if not any(by_kind.values()):
         texts = read_texts(options, [(name, "") for name in options.common.files]) if options.common.files else from_input()
@@ -166,8 +205,14 @@ def from_input() -> Texts:
 def settled(options: Options) -> Given:
     """What the options give, once the text of asks is read. A line of it may say the first Monday, and --from may name a week or a
     day of it."""
+    ward = ward_in(options)
     text = read_file(options.common.asks) if options.common.asks else Text("--from", b"")
     start, word = start_in(text, options.common.start), os.fsencode(options.common.since)
+    if ward:
+        text, start = ward_texts.asks_text(ward), ward_texts.start_of(ward, options.common.start)
+    if ward and options.CHANGES_PUBLISHED and word == b"0":
+        word = ward_texts.today_of(ward)
+    Calendar.start = start
     today = b"" if word.isdigit() else word
     if DATE.fullmatch(word) and not start:
         raise DeskError(f"--from {shown(word)}: this is a date; name the Monday of week 0 by --start, or the day as 1:Wed", 2)
@@ -175,18 +220,19 @@ def settled(options: Options) -> Given:
         first_week = max(0, day_of(word, start)) // 7 if today else int(word)
     except DeskError as why:
         raise DeskError(f"--from {shown(word)}: {why}", 2) from None
-    return Given(options, text, start, today, first_week)
+    return Given(options, text, start, today, first_week, ward)
 
 
 def asks_of(given: Given, plan: Plan) -> Asks | None:
     """What is asked for, by a text or by --from."""
-    return Asks(given.text, plan, given.start, given.today) if given.options.common.asks or given.today else None
+    is_asked = given.ward or given.options.common.asks or given.today
+    return Asks(given.text, plan, given.start, given.today, given.held) if is_asked else None
 
 
 def reported_asks(given: Given, plan: Plan) -> Asks | None:
     """As `asks_of`; the desk also reports how many days it read of each ask."""
     wanted = asks_of(given, plan)
-    for line in wanted.answers if wanted else ():
+    for line in wanted.answers if wanted and not given.ward else ():
         program.warn(line)
     return wanted
 
@@ -195,11 +241,13 @@ def both_plans(given: Given, roster: Program) -> list[tuple[Texts, Plan]]:
     """The texts with their plan; and after them, if a second roster is given, those with that roster.
 
     The last is the one to show. What is wrong with it, apart from what the program reports, goes to standard error."""
-    texts = texts_of(given.options)
+    texts = texts_of(given)
     found = [(texts, program.taken(roster, texts))]
     wanted = reported_asks(given, found[0][1])
     if wanted:
-        texts = Asked(wanted).added_to(texts)
+        # (what is compared is the roster as it was)
+        with_duties = given.options.MAKES_ROSTERS or not (given.ward or given.options.common.other)
+        texts = Asked(wanted).added_to(texts, with_duties)
         found = [(texts, dataclasses.replace(program.taken(roster, texts), of_files=found[0][1].roster))]
     if given.options.common.other:
         found.append(with_second(roster, *found[0], given.options.common.other))

@@ -40,10 +40,7 @@ class Grid:
     def __init__(self, sheet: Sheet, columns: int, paint: Paint, with_skills: bool):
         self.sheet, self.paint, self.with_skills = sheet, paint, with_skills
         numbers = [
-            str(cover.have) + cover.mark()
-            for week in sheet.weeks
-            for at in sheet.needed()
-            for cover in sheet.covers(at, week)
+            str(cover.have) + cover.mark() for week in sheet.weeks for at in sheet.needed() for cover in sheet.covers(at, week)
         ]
         ranges = [span(cover) for week in sheet.weeks for at in sheet.needed() for cover in sheet.covers(at, week)]
         marks = max(1, *(len(self.mark(row, day)) for row in sheet.rows for day in range(len(row))))
@@ -68,7 +65,7 @@ class Grid:
         return self.paint(text, code) + " " * (self.day - len(text))
 
     def heads(self, weeks: range) -> list[str]:
-        titles = [", ".join(filter(None, [f"week {week}", self.sheet.frozen_part(week)])) for week in weeks]
+        titles = [", ".join(filter(None, [self.sheet.short_week_text(week), self.sheet.frozen_part(week)])) for week in weeks]
         days = [self.padded(day.decode()[:2], BOLD if number > 4 else "") for number, day in enumerate(DAYS)]
         return [self.line("", [[cut(title, 7 * self.day)] for title in titles]), self.line("", [days] * len(weeks))]
 

@@ -8,21 +8,24 @@ is proved. What the desk counts itself, such as the costs by nurse, it compares 
 they differ. It writes no roster that `roster` didn't write and read back. Only 'why' shows a row that the desk
 itself found, with what `roster` counts of it."""
 FILES = """\
+A ward, the file that 'new' makes, stands in the place of all files, and may also be the first word of a command; it has
+the first Monday, the asks and the roster in it.
+
 The files stand in the program's order (scenario, history, week data, solutions), or are named by --sce, --his,
 --weeks and --sols; without a file, standard input is read. A table of 'desk csv' is taken instead of all solutions,
-also by --with, and as a spreadsheet saves it as CSV. --roster PROGRAM, or the variable DESK_ROSTER, names another
-program than the one of this repository. The status is that of roster: 0 for done, 1 for a refused input, 2 for a
-wrong command line, 3 for a failed read or write, and 4 for too little memory.
+also by --with, and as a spreadsheet saves it: as CSV or .xlsx, with the dates of any country. --roster PROGRAM, or
+the variable DESK_ROSTER, names another program than the one of this repository. The status is that of roster: 0 for
+done, 1 for a refused input, 2 for a wrong command line, 3 for a failed read or write, and 4 for too little memory.
 
 --asks names a text of lines such as 'absent Ann 0:Mon..1:Sun' (she can't work on these days), 'gone Ann 2:Mon..3:Sun'
-(nor has she a contract then), 'off Ann 2:Sat 2:Sun' (she asks to be off), 'pin Ann 0:Mon 0:Wed..0:Fri' (she is to do
-what the roster says now), 'fix Ann 0:Mon' (she does), 'duty Ann 1:Wed Late Nurse' (she has that shift, which is put into
-the roster), 'need 2:Thu Night Trainee 1' (that day's minimum is 1) and 'today 1:Wed' (all days before stay as they are,
-for all nurses). Days are named so everywhere, several one after another; if --start or a line 'start 2026-11-02' says
-the first Monday, they may be dates. The desk reports how many days it read of each line. An absence is a hard rule: a
-roster in which Ann works then is refused, and 'improve --plan' looks for another. So are 'fix', 'duty' and 'today'.
-'off' and 'pin' become off requests and wishes of 10 points each. All of it is in the week data that 'weeks' writes and
-in all totals. What a roster fails is reported."""
+(nor has she a contract then), 'off Ann 2:Sat 2:Sun' (she asks to be off), 'wish Ann Late 2:Sat' (to work), 'pin Ann
+0:Mon 0:Wed..0:Fri' (she is to do what the roster says now), 'fix Ann 0:Mon' (she does), 'duty Ann 1:Wed Late Nurse'
+(she has that shift, which is put into the roster), 'need 2:Thu Night Trainee 1' (that day's minimum is 1) and 'today
+1:Wed' (all days before stay as they are, for all nurses). Days are named so everywhere, several one after another; if
+--start or a line 'start 2026-11-02' says the first Monday, they may be dates. The desk reports how many days it read
+of each line. An absence is a hard rule: a roster in which Ann works then is refused, and 'improve --plan' looks for
+another. So are 'fix', 'duty' and 'today'. 'off', 'wish' and 'pin' become off requests and wishes of 10 points each.
+All of it is in the week data that 'weeks' writes and in all totals. What a roster fails is reported."""
 
 IMPROVE = """
 
@@ -51,11 +54,12 @@ With --few a roster that may break what it may with --plan is repaired. If it is
 come, nothing else changes. Else each nurse who is missed may be one who changes on that day alone; and 'roster plan'
 looks for a roster with --keep from 100 down to 10, and without, and each is trimmed as well: what no hard rule asks for
 is taken back. The one with the fewest changed days is put into the file. All are listed with their changes and
-penalties; '--plan --keep N' makes another of them.
+penalties; --candidate N puts another of them into the file, by the same searches.
 
 The file of --log ends with a line each for the time in seconds, for the searches of runs that ended, the lower bound
-and the seed if there are any, and for the version of roster. A file of --out or --log that is neither empty nor such a
-roster or log is replaced by --force alone."""
+and the seed if there are any, and for the version of roster. A roster that is there is replaced by --force alone, and
+so is a file of --log that is neither empty nor such a log. With a ward the roster becomes its working one at the end,
+as a new version, and --out is left out."""
 
 
 WHO = """

@@ -25,9 +25,9 @@ NOT_FOUND = "not found: "
 class Progress:
     """Shows how far a run is: the log's lines, or on a terminal one line that changes."""
 
-    def __init__(self, log: str | None, bound_search: BoundSearch):
-        """`log` is the name of a file for the lines."""
-        self.bound_search, self.is_terminal = bound_search, sys.stderr.isatty()
+    def __init__(self, log: str | None, bound_search: BoundSearch, is_quiet: bool = False):
+        """`log` is the name of a file for the lines. If it is to be quiet, only the line that changes is shown."""
+        self.bound_search, self.is_terminal, self.is_quiet = bound_search, sys.stderr.isatty(), is_quiet
         self.log: typing.BinaryIO | None = None
         self.name = log or ""
         try:
@@ -45,7 +45,7 @@ class Progress:
                 self.log.flush()
         except OSError as why:
             raise self.failed(why) from None
-        if not self.is_terminal:
+        if not (self.is_terminal or self.is_quiet):
             sys.stderr.buffer.write(line + b"\n")
             sys.stderr.buffer.flush()
 
@@ -80,14 +80,22 @@ class Progress:
         sys.stderr.flush()
 
 
+class Out(typing.NamedTuple):
+    """The file of a run, and what messages call it."""
+
+    path: str
+    label: str
+
+
 class Run:
     """A run of the improver, whose roster is always in the file."""
 
-    def __init__(self, roster: Program, plan: Plan, texts: Texts, out: str, progress: Progress, keep: int | None = None):
+    def __init__(self, roster: Program, plan: Plan, texts: Texts, out: Out, progress: Progress, keep: int | None = None):
         """It begins with the plan of these texts. `keep` is what each day with another shift costs more."""
         at = plan.solutions_offset()
         self.roster, self.start, self.before, self.solutions = roster, plan, texts.before(at, []), texts.joined[at:]
-        self.out, self.progress, self.bound_search, self.keep = out, progress, progress.bound_search, keep
+        self.out, self.label = out
+        self.progress, self.bound_search, self.keep = progress, progress.bound_search, keep
         # (the options of each run of the program)
         self.words = [*words_of(self.bound_search.first_week), *([] if keep is None else ["--keep", str(keep)])]
         # (the last line of the last log; and what the file has: what it costs, and after what)
@@ -98,10 +106,10 @@ class Run:
         self.searches = 0
         self.round_seconds: list[float] = []
         # a file that can't be replaced is an error before the first round
-        with Replacement(out, b""):
+        with Replacement(self.out, b""):
             pass
         # (what the file is to have when it is replaced next)
-        self.there = bytes_of(out)
+        self.there = bytes_of(self.out)
 
     def texts(self) -> Texts:
         return Texts([*self.before.texts, Text("the roster so far", self.solutions)])
@@ -112,7 +120,7 @@ class Run:
         cost, kept = costs_by(self.roster, texts)["total"], self.kept(texts)
         if cost != total - kept:
             by_keep = f" less {kept} by --keep" if kept else ""
-            message = f"the log says {total}{by_keep}, and 'roster cost' {cost}; {shown(self.out)} isn't replaced"
+            message = f"the log says {total}{by_keep}, and 'roster cost' {cost}; {shown(self.label)} isn't replaced"
             raise DeskError(f"{message}. This is a fault of the desk", 3)
         with held_back(), read_back(self.roster, self.before, solutions, [(self.out, solutions)]) as (new,):
             self.look(solutions, f"after {what}, which costs {cost}")
@@ -129,7 +137,9 @@ class Run:
             return
         name = keep_next_to(self.out, solutions)
         self.saved = ""
-        message = f"{shown(self.out)}: something else has written this file meanwhile, and it stays as it is; the roster {when},"
+        message = (
+            f"{shown(self.label)}: something else has written this file meanwhile, and it stays as it is; the roster {when},"
+        )
         raise DeskError(f"{message} is in {shown(name)}. Give each run a file of its own", 3)
 
     def look_again(self) -> None:
@@ -148,7 +158,7 @@ class Run:
 
     def has(self) -> str:
         """What the file has, if a roster was put there."""
-        return f"{shown(self.out)} has the roster {self.when()}" if self.saved else ""
+        return f"{shown(self.label)} has the roster {self.when()}" if self.saved else ""
 
     def ending(self, seeds: list[int]) -> list[str]:
         """How the run was made: the last lines of the file of the log. Those of a search are there if there was one."""
@@ -271,11 +281,11 @@ def finish(run: Run, seeds: list[int], work: collections.abc.Callable[[], None])
     except Interrupted as end:
         run.progress.end()
         run.look_again()
-        has = run.has() or f"{run.lacking}, and {shown(run.out)} is as it was"
+        has = run.has() or f"{run.lacking}, and {shown(run.label)} is as it was"
         raise DeskError(f"interrupted; {has}", end.status) from None
     except DeskError as why:
         run.progress.end()
         raise DeskError("; ".join(filter(None, [str(why), run.has()])), why.status) from None
     finally:
         run.progress.close(run.ending(seeds) if run.progress.log and run.progress.last else [])
-    run.progress.end(f"{shown(run.out)}: {shown(run.progress.last)}{run.bound_search.clause(run.total)}, {run.changes()}")
+    run.progress.end(f"{shown(run.label)}: {shown(run.progress.last)}{run.bound_search.clause(run.total)}, {run.changes()}")

@@ -4,7 +4,7 @@ import dataclasses
 
 from desk_lib.case import Case, Choice, History, Limits, Nurse, NurseDay, Request, Roster, Shift, ShiftSkill
 from desk_lib.case import without_absent_work
-from desk_lib.grammar import ANY, DAYS, Bundle, Cursor, Fault, Part, Words, read_part
+from desk_lib.grammar import ANY, DAYS, Bundle, Cursor, Fault, Part, Words, read_bundle, read_part
 from desk_lib.texts import Text, Texts, shown
 
 # Instead of a file, and of an option: solutions in which nobody works.
@@ -109,6 +109,13 @@ def roster_of(names: Numbers, solutions: list[Part]) -> Roster:
         for nurse, day, shift, skill in part[b"ASSIGNMENTS"].lines:
             roster[names.nurse(nurse)][7 * week + day] = names.shift(shift), names.skill(skill)
     return roster
+
+
+def roster_in(texts: Texts) -> Roster:
+    """The roster of texts that the program takes."""
+    words = Words(texts)
+    bundle = read_bundle(words)
+    return roster_of(Numbers(words.words, bundle.scenario), bundle.solutions)
 
 
 def plan_of(words: Words, bundle: Bundle) -> Plan:

@@ -24,6 +24,8 @@ from desk_lib.trimming import Trimming
 
 # How many rosters are tried in which each nurse who is missed is one who changes on that day alone.
 FILLINGS = 200
+# How many searches each run of `plan` has for a repair of a ward, if neither their number nor the time is given.
+SEARCHES = 5_000
 # What a changed day costs more, from high to low; 0 is as without.
 KEEPS = (100, 50, 20, 10, 0)
 
@@ -48,8 +50,8 @@ class Near:
         skills = f", and {plural(self.skills, 'skill')}" if self.skills else ""
         return f"{plural(self.days, 'day')}{skills} of {plural(self.nurses, 'nurse')} changed, penalty {self.cost}"
 
-    def cells(self) -> list[str]:
-        return [self.how, *map(str, (self.days, self.skills, self.nurses, self.cost))]
+    def cells(self, number: str) -> list[str]:
+        return [f"{number} {self.how}", *map(str, (self.days, self.skills, self.nurses, self.cost))]
 
 
 def near_of(plan: Plan, how: str, solutions: bytes, roster: Roster, cost: int) -> Near:
@@ -98,11 +100,12 @@ class Repair:
             self.run.end = b"few %d" % near.cost
             self.run.progress.line(self.run.end)
 
-    def written(self, how: str, roster: Roster) -> None:
-        """Has the program write a roster of the desk's, if it keeps the hard rules."""
+    def written(self, how: str, roster: Roster) -> bool:
+        """Has the program write a roster of the desk's, if it keeps the hard rules; says whether it does."""
         answer = self.run.roster.call(["improve", "--rounds", "0", *self.from_week], self.texts(roster).joined)
         if answer.status == 0:
             self.add(self.take(how, answer))
+        return answer.status == 0
 
     # ---- how they are found
 
@@ -149,25 +152,42 @@ class Repair:
         elif answer.status:
             raise refusal("plan --keep" if keep else "plan", answer, self.run.given)
         else:
-            near = self.take(f"--keep {keep}" if keep else "without --keep", answer, keep)
-            self.add(near)
-            self.written("trimmed", Trimming(self.plan, near.roster).trimmed())
+            how = f"--keep {keep}" if keep else "without --keep"
+            near = self.take(how, answer, keep)
+            trimming = Trimming(self.plan, near.roster)
+            with_skills = trimming.with_skills_as_before()
+            if with_skills == near.roster or not self.written(how, with_skills):
+                self.add(near)
+            self.written("trimmed", trimming.trimmed())
 
 
 def changes_text(run: Run) -> str:
     """What the file has after a run with --keep."""
     roster = plan_in(run.texts()).roster
-    return f"{shown(run.out)}: {near_of(run.start, '', run.solutions, roster, run.total).text()}"
+    return f"{shown(run.label)}: {near_of(run.start, '', run.solutions, roster, run.total).text()}"
 
 
-def repair(run: Run, searches: int | None, seed: int, end: float | None) -> list[str]:
-    """Puts the roster with the fewest changes into the file, and returns a table of those that were found."""
+def found_by(run: Run, searches: int | None, seed: int, end: float | None) -> list[Near]:
+    """Looks for rosters, and puts the one with the fewest changes into the file. Returns all of them, that one first."""
     run.lacking = "no roster was found"
     repair = Repair(run, seed)
     nearest = repair.search(searches, end)
     # (of one roster that was found twice, the table has how it has the fewest changes)
     of_all = sorted(repair.found.values(), key=Near.rank, reverse=True)
     found = {near.solutions: near for near in of_all} | {nearest.solutions: nearest}
-    rows = [near.cells() for near in sorted(found.values(), key=Near.rank)]
-    head = f"{shown(run.out)}: {nearest.text()}; changed in it, and in others that were found:"
+    return sorted(found.values(), key=Near.rank)
+
+
+def repair(run: Run, searches: int | None, seed: int, end: float | None, chosen: int = 1) -> list[str]:
+    """Puts the chosen one of the rosters that were found into the file, and returns a table of them."""
+    found = found_by(run, searches, seed, end)
+    if chosen > len(found):
+        raise DeskError(f"--candidate {chosen}: {plural(len(found), 'roster')} were found; the first is in the file", 2)
+    near = found[chosen - 1]
+    if chosen > 1:
+        run.save(near.solutions, near.cost, f"candidate {chosen} of the repair")
+        run.end = b"few %d" % near.cost
+        run.progress.line(run.end)
+    rows = [near.cells(str(number)) for number, near in enumerate(found, 1)]
+    head = f"{shown(run.label)}: {near.text()}; changed in it, and in others that were found (--candidate takes another):"
     return [head, *aligned([["", "days", "skills", "nurses", "penalty"], *rows])]

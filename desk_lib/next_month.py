@@ -9,7 +9,7 @@ from desk_lib.grammar import NONE, SMALL
 from desk_lib.model import Plan, with_no_solutions
 from desk_lib.program import Program, plan_in
 from desk_lib.replacing import Replacement
-from desk_lib.texts import DeskError, Text, Texts, shown
+from desk_lib.texts import DeskError, Edit, Text, Texts, shown
 
 
 def last_run(kinds: collections.abc.Sequence[object], kind: object) -> int:
@@ -35,10 +35,12 @@ def history_of(nurse: Nurse, row: Row, carry: bool) -> History:
     return History(*totals, last, *(min(SMALL, run) for run in (of_last, working, off)))
 
 
-def history_text(plan: Plan, carry: bool) -> bytes:
-    """The history after a roster, in which the totals are 0 unless they are carried."""
+def history_text(plan: Plan, carry: bool, left: collections.abc.Container[int] = ()) -> bytes:
+    """The history after a roster, in which the totals are 0 unless they are carried. Nurses who have left have no line."""
     case, lines = plan.case, []
-    for nurse, row in zip(case.nurses, plan.roster):
+    for number, (nurse, row) in enumerate(zip(case.nurses, plan.roster)):
+        if number in left:
+            continue
         after = history_of(nurse, row, carry)
         if max(after.assignments, after.weekends) > SMALL:
             message = f"{shown(nurse.name)} has {after.assignments} assignments by now, and a history holds {SMALL}"
@@ -58,12 +60,41 @@ def needs_texts(plan: Plan, texts: Texts) -> list[bytes]:
     return found
 
 
-def next_files(plan: Plan, texts: Texts, folder: str, carry: bool) -> list[tuple[str, bytes]]:
+def scenario_text(plan: Plan, texts: Texts, left: collections.abc.Collection[int]) -> bytes:
+    """The scenario without those who have left."""
+    end, words = plan.words.offset(plan.bundle.history[b"HISTORY"].at), plan.words
+    section = plan.bundle.scenario[b"NURSES"]
+    if len(left) == len(section.lines):
+        raise DeskError("next: all nurses are gone at the end of the month; take a line 'gone' away")
+    count = b"%d" % (len(section.lines) - len(left))
+    edits: list[Edit] = [(words.offset(section.at + 2), len(words.words[section.at + 2]), count)] if left else []
+    for number in left:
+        first, last = section.lines[number][0], max([section.lines[number][1] + 1, *section.lines[number][2]])
+        begin, finish = words.offset(first), words.offset(last) + len(words.words[last])
+        # (with the end of its line)
+        end_of_line = re.compile(rb"[ \t]*\r?\n").match(texts.joined, finish)
+        finish = end_of_line.end() if end_of_line else finish
+        edits.append((begin, finish - begin, b""))
+    return Text("", texts.joined[:end]).edited(0, edits).data.rstrip() + b"\n"
+
+
+def gone_at_the_end(plan: Plan, gone: dict[int, set[int]]) -> set[int]:
+    """The nurses who are gone on the last day."""
+    return {nurse for nurse, days in gone.items() if plan.days - 1 in days}
+
+
+def file_name(plan: Plan) -> str:
+    """The scenario's name, as it can stand in the name of a file."""
+    return re.sub(r"[^\w.-]", "_", shown(plan.case.name))
+
+
+def next_files(
+    plan: Plan, texts: Texts, folder: str, carry: bool, left: collections.abc.Collection[int] = ()
+) -> list[tuple[str, bytes]]:
     """The files of the next month, in the program's order: their names and their bytes."""
-    name = re.sub(r"[^\w.-]", "_", shown(plan.case.name))
-    scenario = texts.joined[: plan.words.offset(plan.bundle.history[b"HISTORY"].at)].rstrip() + b"\n"
+    name, scenario = file_name(plan), scenario_text(plan, texts, left)
     weeks = [(f"WD-{name}-{week}.txt", data) for week, data in enumerate(needs_texts(plan, texts))]
-    files = [(f"Sc-{name}.txt", scenario), (f"H0-{name}-0.txt", history_text(plan, carry)), *weeks]
+    files = [(f"Sc-{name}.txt", scenario), (f"H0-{name}-0.txt", history_text(plan, carry, left)), *weeks]
     return [(os.path.join(folder, name), data) for name, data in files]
 
 

@@ -37,6 +37,13 @@ class Options:
     WRITES: typing.ClassVar[dict[str, str]] = {}
     # Whether the desk reports, before the command works, which asks the roster fails.
     REPORTS_FAILED_ASKS: typing.ClassVar[bool] = True
+    # Whether the command makes rosters, so that duties are put into the one that it begins with; else it shows a ward's as it is.
+    MAKES_ROSTERS: typing.ClassVar[bool] = False
+    # Whether the command is of what may still change on days that a ward has published: those from today on.
+    CHANGES_PUBLISHED: typing.ClassVar[bool] = False
+
+    # Whether the command calls the program.
+    NEEDS_PROGRAM: typing.ClassVar[bool] = True
 
     common: Common
 
@@ -99,6 +106,7 @@ class WhoOptions(Options):
     """The options of `who`."""
 
     REPORTS_FAILED_ASKS = False
+    CHANGES_PUBLISHED = True
 
     shift: list[str] | None
 
@@ -108,10 +116,12 @@ class SwapOptions(Options):
     """The options of `swap`."""
 
     WRITES = {"out": "roster"}
+    CHANGES_PUBLISHED = True
 
     nurse: str
     other_nurse: str
     day: str
+    take: bool
     out: str | None
 
 
@@ -124,6 +134,7 @@ class PageOptions(Options):
     title: str | None
     notice: bool
     nurse: str | None
+    months: bool
     log: str | None
     bound: bool
     out: str | None
@@ -160,11 +171,13 @@ class ImproveOptions(Options):
 
     WRITES = {"out": "roster", "log": "log of the desk"}
     REPORTS_FAILED_ASKS = False
+    MAKES_ROSTERS = True
 
-    out: str
+    out: str | None
     rounds: int | None
     plan: bool
     few: bool
+    candidate: int | None
     keep: int | None
     bound: bool
     polish: int | None

@@ -78,6 +78,10 @@ OWN = {
 }
 
 
+# Those that have a roster, of which nobody knows whether it was published.
+ROSTERS = ("roster", "table of the desk")
+
+
 def refuse_unrelated(named: str, name: str, kind: str) -> None:
     """Refuses to replace a file that is neither of this kind nor empty. What can't be read is an error when it is written."""
     try:
@@ -87,6 +91,9 @@ def refuse_unrelated(named: str, name: str, kind: str) -> None:
             begin = file.read(BEGIN)
     except (OSError, ValueError):
         return
+    if begin.strip() and kind in ROSTERS and OWN[kind](begin):
+        message = f"{named}: {shown(name)} is there and has a roster, which would be lost; nothing was done"
+        raise DeskError(f"{message}. Give {named} another name, or --force to replace it", 2)
     if begin.strip() and not OWN[kind](begin):
         message = f"{named}: {shown(name)} is there and is no {kind}; nothing was done"
         raise DeskError(f"{message}. Give {named} another name, or --force to replace it", 2)

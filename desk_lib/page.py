@@ -1,19 +1,18 @@
 """The command `page`: a roster as one HTML file, which needs nothing from elsewhere."""
 import collections
 import dataclasses
-import datetime
 import os
-import time
 
 from desk_lib import lower_bound
 from desk_lib.case import SATURDAY, SUNDAY, Choice, ShiftSkill
 from desk_lib.costs import RULES, Costing
-from desk_lib.days import day_text
+from desk_lib.days import day_text, now, with_day_texts
 from desk_lib.grammar import DAYS
 from desk_lib.plot import Plot, Point
 from desk_lib.sheet import Cover, Sheet, date_name
 from desk_lib.texts import plural
 from desk_lib.views import by_day, changes, escaped, month
+from desk_lib.balances import Balances
 
 # Weeks side by side in one table.
 AT_ONCE = 4
@@ -42,17 +41,31 @@ class Wanted:
     version: str
     is_notice: bool = False
     nurse: int | None = None
-
-
-def now() -> datetime.datetime:
-    """The time at which something is made, in UTC; SOURCE_DATE_EPOCH, in seconds from 1970 on, names another."""
-    seconds = os.environ.get("SOURCE_DATE_EPOCH", "")
-    return datetime.datetime.fromtimestamp(int(seconds) if seconds.isdigit() else time.time(), datetime.timezone.utc)
+    # (the months of all nurses, a sheet of paper each; and the colours that a ward gives to shifts, by their numbers)
+    has_months: bool = False
+    colours: tuple[tuple[int, str], ...] = ()
+    balances: "Balances | None" = None
 
 
 def style() -> str:
     with open(f"{os.path.dirname(os.path.realpath(__file__))}/page.css", encoding="utf-8") as file:
         return file.read()
+
+
+def colours(chosen: tuple[tuple[int, str], ...]) -> str:
+    """The style of shifts that have colours of the ward's, with letters that can be read on them."""
+    return "".join(
+        f".s{shift}, .s{shift} small, .s{shift}.request small {{ background: {colour}; color: {ink_on(colour)}; }}\n"
+        for shift, colour in chosen
+    )
+
+
+def ink_on(colour: str) -> str:
+    """Black or white, whichever has more contrast on a colour (WCAG 2)."""
+    parts = [int(colour[at : at + 2], 16) / 255 for at in (1, 3, 5)]
+    linear = [part / 12.92 if part <= 0.03928 else ((part + 0.055) / 1.055) ** 2.4 for part in parts]
+    light = sum(weight * part for weight, part in zip((0.2126, 0.7152, 0.0722), linear))
+    return "#000000" if (light + 0.05) ** 2 >= 1.05 * 0.05 else "#ffffff"
 
 
 def number(now: int, before: int | None = None) -> str:
@@ -83,15 +96,21 @@ class Page:
         """What stands between the head and the foot."""
         if self.wanted.nurse is not None:
             return [month(self.sheet, self.wanted.nurse)]
+        if self.wanted.has_months:
+            return [month(self.sheet, number, is_titled=True) for number in range(len(self.case.nurses))]
         found = [self.grid(), by_day(self.sheet), changes(self.sheet)]
-        return found if self.wanted.is_notice else [*found, self.totals(), self.costs(), self.staffing(), self.plot()]
+        return (
+            found
+            if self.wanted.is_notice
+            else [*found, self.totals(), self.costs(), self.balances(), self.staffing(), self.plot()]
+        )
 
     # ---- above
 
     def head(self) -> str:
         title, case, nurse = escaped(self.wanted.title), self.case, self.wanted.nurse
         size = f"{plural(case.weeks, 'week')}, {plural(len(case.nurses), 'nurse')}{self.frozen_clause()}{self.changes_clause()}"
-        name = "" if nurse is None else escaped(case.nurses[nurse].name)
+        name, is_whole = "" if nurse is None else escaped(case.nurses[nurse].name), nurse is None and not self.wanted.has_months
         return f"""<!doctype html>
 <html lang="en">
 <head>
@@ -100,41 +119,43 @@ class Page:
 <meta name="generator" content="desk">
 <title>{f"{name}: " if name else ""}{title}</title>
 <style>
-{style()}</style>
+{style()}{colours(self.wanted.colours)}</style>
 </head>
 <body>
 <header>
 <h1>{name or title}</h1>
 <p>{title if name else size}</p>
-{"" if name else f'<nav aria-label="Sections of this page">{self.links()}</nav>'}
-{"" if name or self.wanted.is_notice else self.cards() + self.breaches()}
+{f'<nav aria-label="Sections of this page">{self.links()}</nav>' if is_whole else ""}
+{self.cards() + self.breaches() if is_whole and not self.wanted.is_notice else ""}
 </header>"""
 
     def links(self) -> str:
         """The sections of the page, by links to them."""
         links = [("grid", "Grid"), ("days", "Who is on"), *[("changes", "Changes")] * bool(self.sheet.changes())]
         if not self.wanted.is_notice:
-            links += [("totals", "Totals"), ("nurses", "Costs by nurse"), ("staffing", "Staffing")]
+            links += [("totals", "Totals"), ("nurses", "Costs by nurse")]
+            links += [("balances", "Balances")] * (self.wanted.balances is not None) + [("staffing", "Staffing")]
             links += [("log", "The run")] if self.log else []
         return "".join(f'<a href="#{at}">{title}</a>' for at, title in links)
 
     def breaches(self) -> str:
         """The hard rules that are broken, in words."""
-        head, *lines = map(escaped, self.sheet.breach_lines() or [""])
+        head, *lines = (escaped(with_day_texts(line)) for line in self.sheet.breach_lines() or [""])
         items = "".join(f"<li>{line}</li>" for line in lines)
         return f'<div class="broken"><b>{head}</b><ul>{items}</ul></div>' if lines else ""
 
     def frozen_clause(self) -> str:
         week, past = self.sheet.first_week, self.sheet.past
-        if past > 7 * week:
-            return f", days before {day_text(past)} frozen" if past < self.costing.plan.days else ", all days frozen"
-        return f", weeks before {week} frozen" if week else ""
+        word, past = self.sheet.frozen_word(self.wanted.is_notice), max(past, 7 * week)
+        if past >= self.costing.plan.days:
+            return f", all days {word}"
+        return f", days before {day_text(past)} {word}" if past else ""
 
     def changes_clause(self) -> str:
-        if not self.before:
+        if not self.sheet.is_compared:
             return ""
-        count = self.sheet.changed()
-        return f", {plural(count, 'day')} changed" if count else ", no day changed"
+        count, since = self.sheet.changed(), "" if self.before else " since it was published"
+        return f", {plural(count, 'day')} changed{since}" if count else f", no day changed{since}"
 
     def cards(self) -> str:
         """The total, the lower bound, and the rules, each with its penalty."""
@@ -159,9 +180,7 @@ class Page:
     # ---- the grid
 
     def grid(self) -> str:
-        blocks = [
-            self.block(self.sheet.weeks[first : first + AT_ONCE]) for first in range(0, len(self.sheet.weeks), AT_ONCE)
-        ]
+        blocks = [self.block(self.sheet.weeks[first : first + AT_ONCE]) for first in range(0, len(self.sheet.weeks), AT_ONCE)]
         about = "" if self.wanted.is_notice else ABOUT_COVER
         lines = ['<section id="grid">', "<h2>Grid</h2>", self.legend(), about, *blocks, "</section>"]
         return "\n".join(filter(None, lines))
@@ -177,7 +196,7 @@ class Page:
         items += [
             f'<span class="key">{letter}</span>{escaped(skill)}' for letter, skill in zip(sheet.skill_letters, self.case.skills)
         ]
-        if self.before:
+        if sheet.is_compared:
             first = sheet.shift_letters[0]
             items.append(f'<span class="key changed">‹{first}</span>changed, it was {first} before')
         if not self.wanted.is_notice:
@@ -185,12 +204,12 @@ class Page:
         if sheet.broken:
             items.append('<span class="key bad">!!</span>a broken hard rule')
         if sheet.first_week or self.case.fixed:
-            items.append(f'<span class="key frozen"></span>frozen {"day" if self.case.fixed else "week"}')
+            items.append(f'<span class="key frozen"></span>{sheet.frozen_word(self.wanted.is_notice)} day')
         return f'<ul class="legend">{"".join(f"<li>{item}</li>" for item in items)}</ul>'
 
     def block(self, weeks: range) -> str:
         """A table of some weeks: their heads, the nurses, and the cover."""
-        caption = f"Weeks {weeks[0]} to {weeks[-1]}" if len(weeks) > 1 else f"Week {weeks[0]}"
+        caption = self.sheet.span_text(7 * weeks[0], 7 * weeks[-1] + 6)
         heads = "".join(f'<th class="week" colspan="7" scope="colgroup">{self.week_name(week)}</th>' for week in weeks)
         days = "".join(self.day_head(7 * week + day) for week in weeks for day in range(7))
         lines = [
@@ -210,8 +229,8 @@ class Page:
         return f'<tbody class="cover">\n{rows}\n</tbody>'
 
     def week_name(self, week: int) -> str:
-        date, frozen = self.sheet.date(7 * week), self.sheet.frozen_part(week)
-        return f"Week {week}{f' from {date_name(date)}' if date else ''}{f' ({frozen})' if frozen else ''}"
+        frozen = self.sheet.frozen_part(week, self.sheet.frozen_word(self.wanted.is_notice))
+        return f"{self.sheet.week_text(week)}{f' ({frozen})' if frozen else ''}"
 
     def day_head(self, day: int) -> str:
         date = self.sheet.date(day)
@@ -289,7 +308,10 @@ class Page:
         weekends = sum(any(pair) for pair in zip(row[SATURDAY::7], row[SUNDAY::7]))
         skills = ", ".join(escaped(self.case.skills[skill]) for skill in nurse.skills)
         cells = [f'<td class="words">{escaped(self.costing.plan.contract_name(nurse.contract))}</td>']
-        cells += [f'<td class="words">{skills}</td>', *(number_cell(counts[shift], None) for shift in range(len(self.case.shifts)))]
+        cells += [
+            f'<td class="words">{skills}</td>',
+            *(number_cell(counts[shift], None) for shift in range(len(self.case.shifts))),
+        ]
         cells.append(within(past.assignments + sum(counts.values()), *contract.assignments))
         cells.append(within(past.weekends + weekends, 0, contract.weekends))
         return f'<tr><th scope="row" title="{name}">{name}</th>{"".join(cells)}</tr>'
@@ -319,6 +341,26 @@ class Page:
         whole = number(total, sum(old.values()) if old else None)
         return f'<tr><th scope="row" title="{name}">{name}</th>{cells}<td class="sum">{whole}</td>{bar}</tr>'
 
+    def balances(self) -> str:
+        """What each nurse has had, the greatest and the least of each column marked."""
+        if self.wanted.balances is None:
+            return ""
+        heads = "".join(f'<th scope="col">{escaped(head)}</th>' for head in self.wanted.balances.heads()[1:])
+        rows = []
+        for name, *cells in self.wanted.balances.rows():
+            rows.append(
+                f'<tr><th scope="row" title="{escaped(name)}">{escaped(name)}</th>{"".join(map(balance_cell, cells))}</tr>'
+            )
+        return f"""<section id="balances">
+<h2>Balances</h2>
+<p>What each nurse has had; ▲ is the greatest number of a column and ▼ the least. It costs nothing.</p>
+<div class="scroll" tabindex="0" role="region" aria-label="Balances">
+<table class="numbers"><thead><tr><th scope="col">nurse</th>{heads}</tr></thead>
+<tbody>
+{chr(10).join(rows)}
+</tbody></table></div>
+</section>"""
+
     def staffing(self) -> str:
         """S1 by shift and skill."""
         case, both = self.case, (self.costing, self.before or self.costing)
@@ -343,17 +385,20 @@ class Page:
     def plot(self) -> str:
         if not self.log:
             return ""
-        return (
-            f'<section id="log">\n<h2>The run</h2>\n<div class="plot">{Plot(self.log, self.bound).svg()}</div>\n</section>'
-        )
+        return f'<section id="log">\n<h2>The run</h2>\n<div class="plot">{Plot(self.log, self.bound).svg()}</div>\n</section>'
 
     def foot(self) -> str:
         made = f"Made by desk on {date_name(now().astimezone().date())}, with {escaped(self.wanted.version)}."
-        has_totals = not self.wanted.is_notice and self.wanted.nurse is None
+        has_totals = not (self.wanted.is_notice or self.wanted.has_months) and self.wanted.nurse is None
         totals = " Each total is that of the program roster; the costs by nurse add up to it." if has_totals else ""
         return f"""<footer>{made}{totals}</footer>
 </body>
 </html>"""
+
+
+def balance_cell(text: str) -> str:
+    """A number of the balances, with its mark."""
+    return f'<td>{text.replace("^", " ▲").replace("v", " ▼")}</td>'
 
 
 def low(cover: Cover) -> list[str]:

@@ -10,6 +10,7 @@ import subprocess
 import sys
 import typing
 
+from desk_lib.cutting import cut, too_many
 from desk_lib.grammar import Fault, Words, read_bundle
 from desk_lib.model import Plan, plan_of
 from desk_lib.texts import DeskError, Texts, shown
@@ -127,6 +128,9 @@ def refusal(words: str, answer: Answer, texts: Texts) -> DeskError:
         return unknown(words)
     if answer.status < 0:
         return DeskError(f"'roster {words.split()[0]}' was ended by {signal.Signals(-answer.status).name}", 3)
+    states = too_many(texts.joined, answer.last())
+    if states:
+        return DeskError(f"{answer.last()}{states}", answer.status)
     message = f"{located(answer.last(), texts)}; 'desk check' with these files reports all that is wrong"
     return DeskError(message, answer.status)
 
@@ -151,7 +155,8 @@ class Program:
         self.path = path
 
     def start(self, words: list[str], text: bytes, niceness: int = 0, seconds: float = 0) -> Running:
-        return Running(self.path, words, text, niceness, seconds)
+        """Begins a run over the text, in which numbers that can't bind are cut."""
+        return Running(self.path, words, cut(text), niceness, seconds)
 
     def version(self) -> str:
         return shown(self.call(["--version"], b"").output.rstrip())
@@ -194,16 +199,27 @@ def located(line: str, texts: Texts) -> str:
 
 
 def find(path: str | None) -> Program:
-    """The program: the one named, or that of this repository, which is built if need be."""
+    """The program: the one named, or that of this repository, if it is built."""
     path = path or os.environ.get(VARIABLE)
     if path:
         return known(Program(path))
-    ran = subprocess.run([f"{TOP}/roster", "--version"], stdin=subprocess.DEVNULL, stdout=subprocess.PIPE)
-    if ran.returncode:
-        raise DeskError(
-            f"'{TOP}/roster --version' ended with status {ran.returncode}; the README says how the program is built", 3
-        )
-    return Program(f"{TOP}/out/roster")
+    built = f"{TOP}/out/roster"
+    if not is_built(built):
+        how = "isn't built yet" if not os.path.isfile(built) else "was built of other sources"
+        message = f"the program roster {how}; '{TOP}/roster --version' proves and builds it, which takes some 20 minutes"
+        raise DeskError(f"{message}; or --roster or {VARIABLE} names one that is there", 3)
+    return known(Program(built))
+
+
+def is_built(path: str) -> bool:
+    """Whether the program is there, and was built of the sources as they are."""
+    try:
+        with open(f"{path}.built", encoding="utf-8") as file:
+            of = [file.readline(), file.readline()]
+        ran = subprocess.run([f"{TOP}/tools/sources", "roster"], stdin=subprocess.DEVNULL, stdout=subprocess.PIPE, check=False)
+    except OSError:
+        return False
+    return os.access(path, os.X_OK) and ran.stdout.decode().splitlines() == [line.rstrip("\n") for line in of]
 
 
 def known(program: Program) -> Program:

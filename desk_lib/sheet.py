@@ -6,12 +6,11 @@ import functools
 from desk_lib.breaches import all_breaches, breach_lines, frozen_changes
 from desk_lib.case import Choice, Roster, ShiftSkill
 from desk_lib.costs import Costing
-from desk_lib.days import day_name, day_text
+from desk_lib.days import MONTHS, day_name, day_text
 from desk_lib.model import choice_name
 from desk_lib.texts import plural, shown
 
 SPARE = "0123456789"
-MONTHS = "Jan Feb Mar Apr May Jun Jul Aug Sep Oct Nov Dec".split()
 
 
 def date_name(date: datetime.date) -> str:
@@ -59,11 +58,16 @@ class Sheet:
     """A roster to be shown, compared with another one if that is given. Weeks before `first_week` are frozen, and the first begins on
     the Monday `start` if that is known."""
 
-    def __init__(self, costing: Costing, before: Roster | None, first_week: int, start: datetime.date | None = None):
+    def __init__(
+        self, costing: Costing, before: Roster | None, first_week: int, start: datetime.date | None = None, published: int = 0
+    ):
         self.costing, self.case, self.start = costing, costing.case, start
         self.weeks, self.first_week, self.is_compared = range(self.case.weeks), first_week, before is not None
+        # (how many of the first days are published, if a ward says so: what changed there since breaks nothing)
+        self.published = published
         # (what the roster breaks; and what the other one breaks, if there is one)
-        self.breaches = [*all_breaches(costing.plan), *frozen_changes(costing.plan, before or costing.plan.roster, first_week)]
+        unchanged = costing.plan.roster if published or before is None else before
+        self.breaches = [*all_breaches(costing.plan), *frozen_changes(costing.plan, unchanged, first_week)]
         self.breaches_before = all_breaches(dataclasses.replace(costing.plan, roster=before)) if before else []
         self.broken: dict[tuple[int, int], tuple[str, ...]] = {}
         for breach in self.breaches:
@@ -78,14 +82,36 @@ class Sheet:
 
     @functools.cached_property
     def past(self) -> int:
-        """How many of the first days are frozen for all nurses."""
+        """How many of the first days are frozen for all nurses, or published."""
         days = range(self.costing.plan.days)
-        return next((day for day in days if not all(row[day].is_frozen for row in self.rows)), len(days))
+        frozen = next((day for day in days if not all(row[day].is_frozen for row in self.rows)), len(days))
+        return max(frozen, self.published)
 
-    def frozen_part(self, week: int) -> str:
+    def frozen_part(self, week: int, word: str = "frozen") -> str:
         """How much of a week is frozen for all nurses, in words."""
         count = self.past - 7 * week
-        return "frozen" if count >= 7 else f"frozen to {day_name(count - 1)}" if count > 0 else ""
+        return word if count >= 7 else f"{word} to {day_name(count - 1)}" if count > 0 else ""
+
+    def span_text(self, first: int, last: int) -> str:
+        """The days from one to another in words, as for people if the dates are known."""
+        begin, end = self.date(first), self.date(last)
+        if begin is None or end is None:
+            return f"{day_text(first)} to {day_text(last)}"
+        month = f" {MONTHS[begin.month - 1]}" if (begin.month, begin.year) != (end.month, end.year) else ""
+        year = f" {begin.year}" if begin.year != end.year else ""
+        return f"{begin.day}{month}{year} to {date_name(end)}"
+
+    def short_week_text(self, week: int) -> str:
+        """The dates of a week without the year, or how words count it."""
+        begin, end = self.date(7 * week), self.date(7 * week + 6)
+        if begin is None or end is None:
+            return f"week {week}"
+        month = f" {MONTHS[begin.month - 1]}" if begin.month != end.month else ""
+        return f"{begin.day}{month} to {end.day} {MONTHS[end.month - 1]}"
+
+    def week_text(self, week: int) -> str:
+        """A week in words."""
+        return self.span_text(7 * week, 7 * week + 6)
 
     def is_fixed(self, cell: Cell, day: int) -> bool:
         """Whether a day is frozen for its nurse, and not for all."""
@@ -106,18 +132,21 @@ class Sheet:
         return self.start + datetime.timedelta(day) if self.start else None
 
     def day_name(self, day: int) -> str:
-        """A day in words, with its date if that is known."""
-        date = self.date(day)
-        return day_text(day) + (f", {date_name(date)}" if date else "")
+        """A day in words."""
+        return day_text(day)
 
-    def cell_text(self, number: int, day: int, without_requests: bool = False) -> str:
-        """A day of a nurse in words."""
+    def cell_text(self, number: int, day: int, is_notice: bool = False) -> str:
+        """A day of a nurse in words; for the wall without requests, and in the words of nurses."""
         cell = self.rows[number][day]
         clauses = [f"{shown(self.case.nurses[number].name)}, {self.day_name(day)}: {choice_name(self.case, cell.choice)}"]
         clauses += [f"before: {choice_name(self.case, cell.before)}"] if cell.is_changed else []
-        if not without_requests:
+        if not is_notice:
             clauses += ["an off request isn't met"] * cell.breaks_request + ["a wish isn't met"] * cell.misses_wish
-        return "; ".join([*clauses, *["absent"] * cell.is_absent, *cell.broken, *["frozen"] * cell.is_frozen])
+        return "; ".join([*clauses, *["absent"] * cell.is_absent, *cell.broken, *[self.frozen_word(is_notice)] * cell.is_frozen])
+
+    def frozen_word(self, is_notice: bool) -> str:
+        """What days are called that stay as they are."""
+        return "published" if is_notice or self.published else "frozen"
 
     def breach_lines(self) -> list[str]:
         """What the roster breaks, or the one before, a line for each, below a line that says how many."""

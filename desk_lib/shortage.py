@@ -4,13 +4,14 @@ Nurses are matched to the slots of one day at a time: each to one at most, of a 
 she takes what the roster says; and if the day before is known (the history's, or a frozen one), no shift that is forbidden after it, nor
 one before a frozen day that may not follow it.
 """
+import collections
 import dataclasses
 import itertools
 
 from desk_lib.case import Case, ShiftSkill
 from desk_lib.days import day_text, day_word
 from desk_lib.model import Plan
-from desk_lib.texts import shown
+from desk_lib.texts import plural, shown
 
 
 @dataclasses.dataclass(frozen=True)
@@ -133,3 +134,38 @@ def shortages_on(plan: Plan, day: int, first_week: int) -> list[Shortage]:
 def shortages(plan: Plan, first_week: int) -> list[Shortage]:
     """All of a plan of which the weeks before this one are frozen, and its fixed days, by day."""
     return [short for day in range(plan.days) for short in shortages_on(plan, day, first_week)]
+
+
+def short_over_all(plan: Plan) -> str:
+    """What of the minimums of all weeks goes beyond what the contracts allow, in words; nothing if they suffice.
+
+    Each nurse has as many assignments as her contract allows with those of the history, on days on which she isn't absent, and gives
+    each to a skill of hers. By the theorem of the greatest flow and the least cut, that suffices if for each group of
+    skills those who have one of them suffice for what the group needs."""
+    case, needed = plan.case, collections.Counter[int]()
+    for (_, skill), days in case.needs.items():
+        needed[skill] += sum(limits.least for limits in days)
+    allowed = [assignments_allowed(plan, number) for number in range(len(case.nurses))]
+    skills, short = range(len(case.skills)), {}
+    for group in (group for count in range(1, len(skills) + 1) for group in itertools.combinations(skills, count)):
+        there = sum(most for most, nurse in zip(allowed, case.nurses) if {*nurse.skills} & {*group})
+        short[group] = sum(needed[skill] for skill in group) - there
+    worst = max(short, key=lambda group: (short[group], -len(group)))
+    if short[worst] <= 0:
+        return ""
+    # (the group that is short of the most, and each skill that is short by itself)
+    alone = [f"{shown(case.skills[skill])} {short[(skill,)]}" for skill in skills if worst != (skill,) and short[(skill,)] > 0]
+    names = "all skills" if len(worst) == len(skills) else " and ".join(shown(case.skills[skill]) for skill in worst)
+    need = sum(needed[skill] for skill in worst)
+    message = (
+        f"over all weeks the minimums need {plural(need, 'assignment')} of {names}, and the contracts of those who can come allow"
+    )
+    by_themselves = f" (by themselves: {', '.join(alone)})" if alone else ""
+    return f"{message} {need - short[worst]}: {short[worst]} short{by_themselves}, each of which costs 20 by S6"
+
+
+def assignments_allowed(plan: Plan, number: int) -> int:
+    """How many assignments a nurse may have by her contract, on the days on which she can come."""
+    nurse = plan.case.nurses[number]
+    days = sum((number, day) not in plan.case.absences for day in range(plan.days))
+    return max(0, min(days, plan.case.contracts[nurse.contract].assignments.greatest - nurse.history.assignments))

@@ -57,9 +57,13 @@ class Swap:
         was, now = old.totals_by_rule(), self.costing(self.texts[1], self.new).totals_by_rule()
         return lines + [f"{rule} {changed(was[rule], now[rule])}" for rule in was if was[rule] != now[rule] or rule == "total"]
 
+    def solutions(self) -> bytes:
+        """The roster with the swap, as the program writes it."""
+        return self.program.ask(["show"], self.texts[1]).output
+
     def write(self, name: str) -> None:
-        """Writes the roster with the swap, as the program does."""
-        solutions = self.program.ask(["show"], self.texts[1]).output
+        """Writes the roster with the swap."""
+        solutions = self.solutions()
         with read_back(self.program, self.before, solutions, [(name, solutions)]) as (new,):
             new.put()
 

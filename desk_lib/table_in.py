@@ -1,17 +1,20 @@
 """The table that `desk csv` writes, instead of solutions: a roster if it is right, and else what is wrong with it."""
 import dataclasses
-import datetime
 import re
+import unicodedata
 
 from desk_lib.case import Case, Choice, Roster
-from desk_lib.days import day_text, monday_in
+from desk_lib.days import column_name, monday_in
 from desk_lib.findings import nearest
 from desk_lib.grammar import Fault, Words, read_bundle
 from desk_lib.model import choice_name, plan_of, solution_pieces, with_no_solutions
+from desk_lib.spreadsheet import UTF16, dates_of, days_in_heads, decoded, is_xlsx
 from desk_lib.texts import UTF8_MARK, DeskError, Origin, Place, Text, Texts, plural, shown
 
-# The first cell, what divides cells, and how the second cell begins, which names a day.
-TABLE = re.compile(rb'"?nurse"?([,;\t])"?(week |\d{4}-)')
+# The first cell, what divides cells, and how the second cell begins, which names a day: as 'week 0 Mon', or a date of any form.
+TABLE = re.compile(
+    rb'(?:[ \t]*[,;\t]*[ \t]*\r?\n)*[ \t]*"?nurse"?[ ]*([,;\t])[ ]*"?(?:week |\d{1,4}[-./ ]|[A-Z][a-z]+\.?,? \d)', re.I
+)
 # How many letters of a word are shown.
 LONGEST = 40
 # A cell in quotes, or one without, up to what divides cells or the end of the line.
@@ -48,6 +51,15 @@ def begin_of(text: Text) -> re.Match[bytes] | None:
     return TABLE.match(text.data.removeprefix(UTF8_MARK))
 
 
+def as_table(text: Text) -> Text:
+    """The text of a table, as a spreadsheet may save it, in UTF-8; any other text as it is."""
+    if is_xlsx(text.data) or text.data[:2] in UTF16:
+        data = decoded(text.name, text.data)
+        return dataclasses.replace(text, data=data) if TABLE.match(data) else text
+    data = decoded(text.name, text.data) if begin_of(text) else text.data
+    return dataclasses.replace(text, data=data) if data != text.data.removeprefix(UTF8_MARK) else text
+
+
 def lines_of(text: Text) -> list[list[Cell]]:
     """The cells of each line of a table that has any."""
     begin = begin_of(text)
@@ -55,8 +67,10 @@ def lines_of(text: Text) -> list[list[Cell]]:
     cell = re.compile(CELL % (mark, mark, mark))
     found, at = [], len(UTF8_MARK) if text.data.startswith(UTF8_MARK) else 0
     for line in text.data[at:].split(b"\n"):
-        if line.strip():
-            found.append(cells_of(line.rstrip(b"\r"), at, cell))
+        cells = cells_of(line.rstrip(b"\r"), at, cell)
+        # (spreadsheets write rows of which all cells are empty)
+        if any(of_line.word for of_line in cells):
+            found.append(cells)
         at += len(line) + 1
     return found
 
@@ -69,7 +83,7 @@ def cells_of(line: bytes, at: int, cell: re.Pattern[bytes]) -> list[Cell]:
         # (a quote that doesn't end is part of a word, which has all that follows)
         end = match.end() if match else len(line)
         word = line[begin:end] if not match or match[1] is None else match[1].replace(b'""', b'"')
-        found.append(Cell(shown(word.strip()), at + begin, end - begin))
+        found.append(Cell(unicodedata.normalize("NFC", shown(word.strip())), at + begin, end - begin))
         begin = end + 1
     return found
 
@@ -83,8 +97,8 @@ class Table:
         self.days = 7 * case.weeks
         self.head, *lines = lines_of(text)
         both = [(shift, skill) for shift in range(len(case.shifts)) for skill in range(len(case.skills))]
-        self.choices: dict[str, Choice] = {choice_name(case, choice): choice for choice in both} | {"": None}
-        self.numbers = {shown(nurse.name): number for number, nurse in enumerate(case.nurses)}
+        self.choices: dict[str, Choice] = {composed(choice_name(case, choice)): choice for choice in both} | {"": None}
+        self.numbers = {composed(shown(nurse.name)): number for number, nurse in enumerate(case.nurses)}
         self.cells: dict[tuple[int, int], Cell] = {}
         self.of_nurses: dict[int, Cell] = {}
         self.roster: Roster = [[None] * self.days for _ in case.nurses]
@@ -100,22 +114,44 @@ class Table:
     def check_head(self) -> bool:
         """Notes the first cell of the first line that names another day than is due there."""
         days = self.head[1:]
-        try:
-            start = None if days[0].word.startswith("week ") else monday_in(days[0].word)
-        except DeskError as why:
-            self.note(days[0], str(why))
+        while len(days) > self.days and not days[-1].word:
+            days = days[:-1]
+        if not days:
+            self.note(self.head[0], "no day stands after this")
             return False
-        for day, cell in enumerate(days[: self.days]):
-            due = f"{start + datetime.timedelta(day)}" if start else day_text(day)
-            if cell.word != due:
-                self.note(cell, f"{cell} stands here, and '{due}' is due")
-                return False
+        if not (self.check_dates(days[: self.days]) if days[0].word[:5] != "week " else self.check_weeks(days[: self.days])):
+            return False
         if len(days) != self.days:
-            self.note(days[min(len(days) - 1, self.days)], f"the table has {plural(len(days), 'day')}, and the scenario {self.days}")
+            self.note(
+                days[min(len(days) - 1, self.days)], f"the table has {plural(len(days), 'day')}, and the scenario {self.days}"
+            )
         return len(days) == self.days
+
+    def check_weeks(self, days: list[Cell]) -> bool:
+        """The same of days that are named by their weeks."""
+        for day, cell in enumerate(days):
+            if cell.word != column_name(day):
+                self.note(cell, f"{cell} stands here, and '{column_name(day)}' is due")
+                return False
+        return True
+
+    def check_dates(self, days: list[Cell]) -> bool:
+        """The same of dates, in whatever form a country writes them."""
+        dates, at, why = days_in_heads([cell.word for cell in days])
+        first = {*dates_of(days[0].word).values()} if not dates else {dates[0]}
+        try:
+            for date in first if len(first) == 1 else ():
+                monday_in(str(date))
+        except DeskError as not_monday:
+            at, why = 0, str(not_monday)
+        if why:
+            self.note(days[at], why)
+        return not why
 
     def take(self, name: Cell, *cells: Cell) -> None:
         """Takes a line of a nurse."""
+        while len(cells) > self.days and not cells[-1].word:
+            cells = cells[:-1]
         number = self.numbers.get(name.word)
         if number is None:
             near = nearest(name.word.encode(), [known.encode() for known in self.numbers])
@@ -156,6 +192,11 @@ class Table:
         return Text(self.text.name, data, self.text.kind, Origin(self.text.data, origins))
 
 
+def composed(name: str) -> str:
+    """A name as it is compared: in composed Unicode."""
+    return unicodedata.normalize("NFC", name)
+
+
 def case_of(texts: Texts) -> Case | None:
     """The case of texts that end after the week data, if they can be read."""
     whole = with_no_solutions(texts)
@@ -168,14 +209,16 @@ def case_of(texts: Texts) -> Case | None:
 
 def table_in(texts: list[Text]) -> Table | None:
     """The table that stands after other texts, if these can be read and have all but solutions."""
-    if len(texts) < 2 or not begin_of(texts[-1]):
+    last = as_table(texts[-1]) if len(texts) > 1 else None
+    if last is None or not begin_of(last):
         return None
     case = case_of(Texts(texts[:-1]))
-    return Table(texts[-1], case) if case else None
+    return Table(last, case) if case else None
 
 
 def solutions_in(text: Text, case: Case) -> Text:
     """A text of solutions: this one, or those of a table, in which nothing may be wrong."""
+    text = as_table(text)
     return right(Table(text, case)).solutions() if begin_of(text) else text
 
 

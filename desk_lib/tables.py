@@ -6,7 +6,7 @@ import io
 from desk_lib.breaches import all_breaches, breach_lines
 from desk_lib.case import changed_days
 from desk_lib.costs import RULES, Costing
-from desk_lib.days import day_text
+from desk_lib.days import column_name
 from desk_lib.model import Plan, choice_name
 from desk_lib.texts import columns, cut, shown
 
@@ -62,20 +62,20 @@ def staffing_rows(costing: Costing, before: Costing | None) -> list[list[str]]:
     return rows
 
 
-def cost_lines(costing: Costing, before: Costing | None) -> list[str]:
-    """What the command `costs` writes."""
+def cost_lines(costing: Costing, before: Costing | None, more: list[str]) -> list[str]:
+    """What the command `costs` writes, with more lines before the totals."""
     totals, old = costing.totals_by_rule(), before.totals_by_rule() if before else None
     lines = aligned(nurse_rows(costing, before))
-    lines += ["", *aligned(staffing_rows(costing, before)), ""]
+    lines += ["", *aligned(staffing_rows(costing, before)), *more, ""]
     if before:
-        lines.append(f"days changed {changed_days(before.plan.roster, costing.plan.roster)}")
+        lines.append(f"days changed {changed_days(before.plan.before, costing.plan.roster)}")
     return lines + [f"{rule} {changed(old[rule] if old else None, number)}" for rule, number in totals.items()]
 
 
 def csv_text(plan: Plan, start: datetime.date | None) -> str:
     """The roster as CSV: a line for each nurse, with what she does on each day; nothing if she is off."""
     days = range(plan.days)
-    heads = [str(start + datetime.timedelta(day)) if start else day_text(day) for day in days]
+    heads = [str(start + datetime.timedelta(day)) if start else column_name(day) for day in days]
     text = io.StringIO()
     table = csv.writer(text, lineterminator="\n")
     table.writerow(["nurse", *heads])
@@ -108,6 +108,6 @@ def json_text(costing: Costing, before: Costing | None, bound: int | None) -> st
     if bound is not None:
         found |= {"floor": bound, "optimal": costing.penalty == bound}
     if before:
-        found["days_changed"] = changed_days(before.plan.roster, costing.plan.roster)
+        found["days_changed"] = changed_days(before.plan.before, costing.plan.roster)
         found["before"] = costs_of(before) | {"breaks": breach_lines(all_breaches(before.plan))}
     return json.dumps(found, indent=2, ensure_ascii=False)

@@ -133,6 +133,9 @@ class Place:
 class Texts:
     """The files of a bundle, joined as the program reads them: with one line end more after each file."""
 
+    # (the ward of which they are, if they are of one)
+    ward = ""
+
     def __init__(self, texts: list[Text], is_stream: bool = False):
         self.texts, self.is_stream = texts, is_stream
         self.lines: dict[int, list[int]] = {}

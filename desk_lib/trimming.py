@@ -1,7 +1,8 @@
 """A roster without the changes for which no hard rule asks: they are taken back, as far as the others let them be."""
+import collections
 import itertools
 
-from desk_lib.case import Choice, NurseDay, Roster, cover_on, shift_of
+from desk_lib.case import Choice, NurseDay, Roster, ShiftSkill, cover_on, shift_of
 from desk_lib.model import Plan
 
 
@@ -26,6 +27,40 @@ class Trimming:
             of_skills = [change for change in changes if self.is_skill(*change)]
             is_new = any([self.take_back(group) for group in [of_skills, *groups(of_skills), *groups(changes)]])
         return self.roster
+
+    def with_skills_as_before(self) -> Roster:
+        """The roster in which those who keep their shift keep its skill, too, as far as the others of that shift can take theirs.
+        The cover stays."""
+        for day in range(self.plan.days):
+            for shift in range(len(self.case.shifts)):
+                self.keep_skills(day, shift)
+        return [[*row] for row in self.roster]
+
+    def keep_skills(self, day: int, shift: int) -> None:
+        """The same for a shift of a day."""
+        there = [nurse for nurse, row in enumerate(self.roster) if shift_of(row[day]) == shift]
+        keeping = [nurse for nurse in there if shift_of(self.before[nurse][day]) == shift]
+        left = collections.Counter(choice for choice in (self.roster[nurse][day] for nurse in there) if choice)
+        left.subtract(choice for choice in (self.before[nurse][day] for nurse in keeping) if choice)
+        if any(count < 0 for count in left.values()):
+            return
+        others = [nurse for nurse in there if nurse not in keeping]
+        given = self.given_out(others, [choice for choice in left.elements()])
+        if given is not None:
+            for nurse, choice in [*((nurse, self.before[nurse][day]) for nurse in keeping), *given.items()]:
+                self.put(nurse, day, choice)
+
+    def given_out(self, nurses: list[int], choices: list[ShiftSkill]) -> dict[int, ShiftSkill] | None:
+        """A choice for each of these nurses by her skills, so that all are taken; None if there is no such way."""
+        if not nurses:
+            return {}
+        first, *others = nurses
+        for at, choice in enumerate(choices):
+            if choice not in choices[:at] and choice[1] in self.case.nurses[first].skills:
+                rest = self.given_out(others, choices[:at] + choices[at + 1 :])
+                if rest is not None:
+                    return rest | {first: choice}
+        return None
 
     def is_skill(self, nurse: int, day: int) -> bool:
         """Whether another skill is all that changed."""

@@ -2,6 +2,7 @@
 import collections
 
 from desk_lib.case import Choice
+from desk_lib.days import day_word
 from desk_lib.grammar import DAYS
 from desk_lib.sheet import Sheet, date_name
 from desk_lib.texts import plural, shown
@@ -44,7 +45,7 @@ def week_links(sheet: Sheet, week: int) -> str:
     """Links to the days of a week."""
     days = range(7 * week, 7 * week + 7)
     links = "".join(f'<a href="#day-{day}">{day_number(sheet, day)}</a>' for day in days)
-    return f'<span class="of-week"><b>week {week}</b>{links}</span>'
+    return f'<span class="of-week"><b>{sheet.week_text(week)}</b>{links}</span>'
 
 
 def day_number(sheet: Sheet, day: int) -> str:
@@ -77,13 +78,14 @@ def shift_on(sheet: Sheet, on: dict[Choice, list[bytes]], shift: int) -> str:
 # ---- one nurse
 
 
-def month(sheet: Sheet, number: int) -> str:
-    """The weeks of one nurse, each a row of seven days."""
+def month(sheet: Sheet, number: int, is_titled: bool = False) -> str:
+    """The weeks of one nurse, each a row of seven days; with her name above, if the page has several."""
+    title = f"<h2>{escaped(sheet.case.nurses[number].name)}</h2>\n" if is_titled else ""
     heads = "".join(f'<th scope="col">{day.decode()}</th>' for day in DAYS)
     rows = "\n".join(month_week(sheet, number, week) for week in sheet.weeks)
     count = sum(cell.choice is not None for cell in sheet.rows[number])
-    return f"""<section id="month">
-<p>{plural(count, 'shift')} in {plural(len(sheet.weeks), 'week')}.</p>
+    return f"""<section {'class="of-nurse"' if is_titled else 'id="month"'}>
+{title}<p>{plural(count, 'shift')} in {plural(len(sheet.weeks), 'week')}.</p>
 <table class="month"><thead><tr><th></th>{heads}</tr></thead>
 <tbody>
 {rows}
@@ -93,14 +95,14 @@ def month(sheet: Sheet, number: int) -> str:
 
 def month_week(sheet: Sheet, number: int, week: int) -> str:
     cells = "".join(month_day(sheet, number, 7 * week + day) for day in range(7))
-    return f'<tr><th scope="row">week {week}</th>{cells}</tr>'
+    return f'<tr><th scope="row">{sheet.week_text(week)}</th>{cells}</tr>'
 
 
 def month_day(sheet: Sheet, number: int, day: int) -> str:
     """A day of a nurse: its date, the shift with the skill, and what it was if it changed."""
     cell, case = sheet.rows[number][day], sheet.case
     date = sheet.date(day)
-    when = f'<small class="when"><b>{DAYS[day % 7].decode()}</b> {date_name(date) if date else f"week {day // 7}"}</small>'
+    when = f'<small class="when"><b>{DAYS[day % 7].decode()}</b> {date_name(date) if date else day_word(day)}</small>'
     if cell.choice is None:
         what = '<span class="off">absent</span>' if cell.is_absent else '<span class="off">off</span>'
     else:

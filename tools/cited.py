@@ -17,7 +17,9 @@ ALLOWED = {
     "Rust and its standard library": ["&mut", "?", "impl Parse", "match", "collect", "map", "Drop", "Display", "a - b"],
     "the shell": ["cc", "~/.local"],
     "the kit and its proofs": ["rt", "requires", "ensures", "first_of", "record", "Type 0", ".old", ".new"],
-    "endings of files": [".rt", ".antt"],
+    "endings of files": [".rt", ".antt", ".xlsx"],
+    "a ward's file, and what is next to it": ["NAME.ward", "NAME.ward-journal", "application_id", "user_version", "WardSeal"],
+    "days of an ask, and a package of Debian's": ["2026-11-04", "4 Nov", "2026-11-02 06:30:00", "python3-openpyxl"],
     "any module, type, function or case": ["proofs/m/f/", "proofs/m/T/f/", "src/m.rt", "GROUP/NAME"],
     "what a build leaves": ["out/"],
     "marks of the desk's grid, and a variable of its cases": ["!", "*", "$TEN"],
@@ -32,7 +34,7 @@ EVERYWHERE = {"--help", "--version"}
 # Folders that aren't looked into.
 LEFT_OUT = {".git", "out", "__pycache__"}
 WORD = r"[A-Za-z_][\w'-]*"
-FILE_NAME = r"[\w-]+\.(?:txt|log|html|csv|ics)"
+FILE_NAME = r"[\w-]+\.(?:txt|log|html|csv|ics|ward)"
 
 
 def read(path: str) -> str:
@@ -161,6 +163,9 @@ def vocabulary() -> frozenset[str]:
         elif path.startswith(("cases/", "desk_cases/")):
             found.add(path.split("/")[-1])
     found |= {*re.findall(WORD, " ".join(re.findall(r'"([^"\n]*)"', read("tools/run-cases"))))}
+    # (the tables of a ward, and their columns)
+    found |= {word for table in re.findall(r'(?m)^    "CREATE TABLE (.*)', read("desk_lib/ward/file.py")) for word in re.findall(WORD, table)}
+    found |= {word for more in re.findall(r'(?m)^    " (\w.*)",?$', read("desk_lib/ward/file.py")) for word in re.findall(WORD, more)}
     asks = re.findall(r'(?m)^    b"(\w+)": \("([^"]*)"', read("desk_lib/asks.py"))
     return frozenset(found | {word for name, form in asks for word in (name, *re.findall(WORD, form))})
 
@@ -176,10 +181,10 @@ def roster_words() -> tuple[frozenset[str], frozenset[str]]:
 @functools.lru_cache(maxsize=None)
 def desk_words() -> tuple[frozenset[str], frozenset[str]]:
     """The commands of the desk, and its options."""
-    text = read("desk_lib/command_line.py")
+    text = "".join(map(read, ("desk_lib/command_line.py", "desk_lib/parsing.py", "desk_lib/ward/words.py")))
     kinds = re.search(r"(?m)^KINDS = \{(.*)\}", read("desk_lib/texts.py"))
     options = [*re.findall(r'"(--[\w-]+)"', text), *(f"--{kind}" for kind in re.findall(r'"(\w+)":', kinds[1] if kinds else ""))]
-    return frozenset(re.findall(r'\bcommand\(\w+,\s*"(\w+)"', text)), frozenset(options)
+    return frozenset(re.findall(r'\b(?:command|of_ward)\(\s*\w+,\s*"(\w+)"', text)), frozenset(options)
 
 
 @functools.lru_cache(maxsize=None)
