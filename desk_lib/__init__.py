@@ -25,6 +25,7 @@
 | spreadsheet | tables as spreadsheets save them |
 | cutting | greatest numbers that can't bind, which the program gets cut |
 | ward | a ward in one file, which remembers |
+| serve | a ward in a browser |
 
 Every roster and every total is the program's. What is counted here is compared with the program before it is shown.
 """

@@ -238,7 +238,7 @@ class Asks:
         if at is None:
             known = {words[first] + b" " + words[second] for first, second, _ in lines}
             like = nearest(shift + b" " + skill, known)
-            raise self.wrong(line, f"week {week} has no requirement of '{shown(shift)} {shown(skill)}'{like}")
+            raise self.wrong(line, f"{day_text(day)} has no requirement of '{shown(shift)} {shown(skill)}'{like}")
         # (after the shift and the skill stand pairs of five words, of which the second is the minimum)
         before = self.needs.setdefault(at + 2 + 5 * weekday + 1, (count, line))
         if int(before[0]) != int(count):

@@ -8,13 +8,14 @@ from desk_lib.asked_texts import Asked
 from desk_lib.asks import AWAY, Asks
 from desk_lib.case import ShiftSkill
 from desk_lib.cutting import too_many
+from desk_lib.days import with_dates
 from desk_lib.doubts import Doubts
 from desk_lib.findings import Finding, LineKey, of_words
 from desk_lib.grammar import MOST_OF, PARTS, Bundle, Fault, Part, Words, read_bundle
 from desk_lib.model import NO_SOLUTIONS, Plan, plan_of
 from desk_lib.program import Answer, Program
 from desk_lib.recovery import Recovery
-from desk_lib.texts import DeskError, Texts, plural, shown
+from desk_lib.texts import SO_FAR, DeskError, Texts, plural, shown
 
 OUT_OF_LIMITS = "count out of limits"
 # What is said if nothing is broken but what `plan` can repair.
@@ -80,6 +81,14 @@ def refused_text(texts: Texts, line: str) -> list[Finding]:
     return found
 
 
+def first_fault(texts: Texts, line: str) -> str:
+    """What is wrong first with texts that the program refuses with this line, and where."""
+    if breaches.BREACH.match(line):
+        return f"{with_dates(line)}{place_of(texts, line)}"
+    found = refused_text(texts, line) if program.LINE.fullmatch(line) else []
+    return f"{found[0].place}: {found[0].message}" if found and found[0].place else found[0].message if found else line
+
+
 def with_program(texts: Texts, line: str, found: list[Finding], hiding: set[LineKey | None]) -> list[Finding]:
     """The findings, of which one has the words of the program: the one on its line; or one more, unless something hides in
     that line."""
@@ -99,7 +108,7 @@ def with_program(texts: Texts, line: str, found: list[Finding], hiding: set[Line
 
 def of_program(texts: Texts, line: str) -> Finding:
     """The fault that the program reports, at its word if that can be found."""
-    match = re.fullmatch(r"line (\d+): (.*)", line, re.S)
+    match = program.LINE.fullmatch(line)
     if not match:
         return of_nurse(texts, line)
     offset = texts.line_start(int(match[1]))
@@ -195,7 +204,8 @@ def place_of(texts: Texts, line: str) -> str:
         return ""
     plan = program.plan_in(texts)
     broken = next(breach for breach in breaches.all_breaches(plan) if breach.line == line)
-    return f" ({Places(plan).finding(broken).place})"
+    place = Places(plan).finding(broken).place
+    return f" ({place})" if place and place.file != SO_FAR else ""
 
 
 def failed(plan: Plan, asks: Asks | None, end: int) -> list[Finding]:

@@ -6,7 +6,7 @@ import sys
 import typing
 
 from desk_lib import commands as does
-from desk_lib import given, options, program, signals
+from desk_lib import given, options, program, replacing, signals
 from desk_lib.findings import nearest
 from desk_lib.helps import ABOUT, CHECK, FILES, IMPROVE, NEXT, SWAP, WEEKS, WHO
 from desk_lib.options import Common, Options
@@ -18,7 +18,7 @@ from desk_lib.ward import words as ward_words
 from desk_lib.ward.naming import is_ward
 
 # The commands whose first word is a ward in any case.
-WARD_FIRST = frozenset("new ask asks unask shifts repair take publish versions undo redo diff backup export".split())
+WARD_FIRST = frozenset("new ask asks unask shifts repair take publish versions undo redo diff backup export serve".split())
 
 
 def add_improve(commands: "Commands") -> None:
@@ -52,6 +52,7 @@ def add_improve(commands: "Commands") -> None:
     )
     with_polish(parser)
     parser.add_argument("--log", metavar="FILE", help="write the log to this file, too; 'page --log' draws it")
+    parser.add_argument("--publish", action="store_true", help="with a ward: publish the roster that it comes to")
     with_files(parser)
 
 
@@ -174,25 +175,27 @@ def parser_of() -> argparse.ArgumentParser:
     ward_words.add_ward(commands)
     ward_words.add_rosters(commands)
     ward_words.add_versions(commands)
+    ward_words.add_serve(commands)
     return parser
 
 
 def parsed(words: list[str]) -> tuple[Run, Options]:
     """The command that the words name, and its options."""
     parser = parser_of()
+    if words and words[0].startswith("--") and words[0] not in ("--help", "--version"):
+        raise DeskError(
+            f"{shown(words[0])}: options come after the command, as 'desk grid {shown(words[0])} ..'; 'desk --help' shows how", 2
+        )
     asked, more = parser.parse_known_args(with_ward_last(words))
     for word in (word for word in more if word.startswith("-")):
-        names = {"other": "with", "since": "from"}
-        options = {f"--{names.get(name, name)}" for name in vars(asked)} - {"--run", "--kind", "--files", "--version"}
-        like = nearest(os.fsencode(word), map(os.fsencode, options))
+        like = nearest(os.fsencode(word), map(os.fsencode, asked.parser.options()))
         raise DeskError(f"'{words[0]}' takes no option '{shown(word)}'{like}; 'desk {words[0]} --help' shows how", 2)
     # (what a command hasn't)
     values: dict[str, typing.Any] = dict.fromkeys(("sce", "his", "weeks", "sols", "asks", "start", "roster"))
     values |= vars(asked)
     if issubclass(asked.kind, ward_options.WardOptions) and "files" not in values:
-        if more:
-            parser.error(f"unrecognized arguments: {' '.join(more)}")
         values["files"] = [asked.ward]
+        values |= asked.parser.with_later(values, more)
     else:
         # (files after an option are files, too)
         values["files"] = [*values["files"], *more]
@@ -245,7 +248,8 @@ def ran(words: list[str]) -> tuple[int, str]:
     except given.WriteFailed as why:
         # (a reader that has gone wants no line)
         is_gone = isinstance(why.cause, BrokenPipeError)
-        return 3, "" if is_gone else f"standard output: write failed: {why.cause.strerror}"
+        remedy = replacing.REMEDIES.get(why.cause.errno or 0, "send it elsewhere")
+        return 3, "" if is_gone else f"standard output: write failed: {why.cause.strerror}; {remedy}"
     except BrokenPipeError:
         return 3, ""
     except OSError as why:

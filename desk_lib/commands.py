@@ -32,6 +32,7 @@ from desk_lib.options import WhoOptions, WhyOptions
 from desk_lib.program import Program
 from desk_lib.sheet import Sheet
 from desk_lib.texts import DeskError, Texts, plural, read_file, shown
+from desk_lib.ward.naming import is_ward
 from desk_lib.why import nurse_in, why_lines
 
 
@@ -140,7 +141,14 @@ def run_csv(options: CsvOptions, given: Given, roster: Program) -> int:
     return 0
 
 
+def check_day(word: str, form: str) -> None:
+    """Stops if a word has no form of a day: a file stands there, since the day was left out."""
+    if not days.is_day(os.fsencode(word)):
+        raise DeskError(f"'{shown(word)}' stands here, and a day is due, as 0:Mon; the form is 'desk {form} FILE..'", 2)
+
+
 def run_why(options: WhyOptions, given: Given, roster: Program) -> int:
+    check_day(options.day, "why NURSE DAY")
     pairs = both_plans(given, roster)
     [costing] = costings(options, roster, pairs)
     day = day_in(os.fsencode(options.day), costing.case.weeks, given.start)
@@ -204,6 +212,8 @@ def run_improve(options: ImproveOptions, given: Given, roster: Program) -> int:
         from desk_lib.ward import rosters
 
         return rosters.improved(options, given, roster)
+    if options.publish:
+        raise DeskError("--publish: this is of a ward; files have nothing that says what is published. Leave it out", 2)
     if not options.out:
         raise DeskError("improve: --out names the file of the roster, as --out better.txt; only a ward needs none", 2)
     improved(options, given, roster, improve.Out(options.out, options.out))
@@ -220,7 +230,12 @@ def check_of_ward(options: ImproveOptions, name: str) -> None:
 
 
 def improved(
-    options: ImproveOptions, given: Given, roster: Program, out: improve.Out, kept: list[improve.Run] | None = None
+    options: ImproveOptions,
+    given: Given,
+    roster: Program,
+    out: improve.Out,
+    kept: list[improve.Run] | None = None,
+    watching: improve.Watching = improve.Progress,
 ) -> None:
     """Makes a run, whose roster is in a file at the end. What is begun is put into the list, whatever ends it."""
     end = None if options.seconds is None else time.monotonic() + options.seconds
@@ -231,7 +246,8 @@ def improved(
     warn_of_frozen(given, plan)
     if is_planned:
         check_shortages(plan, given.first_week, given.ward.name if given.ward else "")
-    run = run_of(options, given.first_week, roster, texts, plan, out)
+    bound_search = lower_bound.BoundSearch(given.first_week, has_frozen(given.first_week, plan))
+    run = run_of(options, roster, texts, plan, out, watching(options.log, bound_search, False))
     if kept is not None:
         kept.append(run)
     seeds, lines = seeds_of(options), []
@@ -277,10 +293,11 @@ def check_shortages(plan: Plan, first_week: int, ward: str = "") -> None:
         raise DeskError(f"{message}; lower them by {how}")
 
 
-def run_of(options: ImproveOptions, first_week: int, roster: Program, texts: Texts, plan: Plan, out: improve.Out) -> improve.Run:
+def run_of(
+    options: ImproveOptions, roster: Program, texts: Texts, plan: Plan, out: improve.Out, progress: improve.Progress
+) -> improve.Run:
     """A run that begins with the roster of the texts."""
-    bound_search = lower_bound.BoundSearch(first_week, has_frozen(first_week, plan))
-    run = improve.Run(roster, plan, texts, out, improve.Progress(options.log, bound_search), options.keep)
+    run = improve.Run(roster, plan, texts, out, progress, options.keep)
     for text in texts.texts:
         if outputs.identity(text.name) == outputs.identity(out.path):
             # (it may have changed since it was read)
@@ -325,6 +342,7 @@ def run_swap(options: SwapOptions, given: Given, roster: Program) -> int:
     if options.out == "-":
         message = "--out -: the roster goes into a file, and what the swap costs to standard output; give the name of a file"
         raise DeskError(message, 2)
+    check_day(options.day, "swap A B DAYS")
     words, files = swap.days_and_files(options.day, options.common.files)
     given = given.with_files(files)
     if options.take and not given.ward:
@@ -358,6 +376,9 @@ def run_next(options: NextOptions, given: Given, roster: Program) -> int:
         from desk_lib.ward.months import run_next_ward
 
         return run_next_ward(options, given, roster)
+    if is_ward(options.folder):
+        message = f"next {shown(options.folder)}: the ward of the month after has no name"
+        raise DeskError(f"{message}; the form is 'desk next WARD NEW', as 'desk next {shown(options.folder)} december.ward'", 2)
     texts = in_order(texts_of(given))
     plan = program.taken(roster, texts)
     wanted = reported_asks(given, plan)
@@ -415,6 +436,8 @@ def run_ics(options: IcsOptions, given: Given, roster: Program) -> int:
 def make_folder(name: str) -> None:
     try:
         os.makedirs(name, exist_ok=True)
+    except FileExistsError:
+        raise DeskError(f"{shown(name)}: this is a file, and a folder is due; give the name of one, or of none", 3) from None
     except OSError as why:
         raise DeskError(f"{shown(name)}: {why.strerror}; give another folder", 3) from None
 

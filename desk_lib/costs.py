@@ -1,6 +1,7 @@
 """What each nurse costs by rule, and each shift and skill: counted here, and compared with the program's own numbers."""
 import collections
 import collections.abc
+import copy
 import itertools
 
 from desk_lib.case import SATURDAY, SUNDAY, Choice, Limits, Request, Row, ShiftSkill, cover_on, shift_of
@@ -37,6 +38,18 @@ class Costing:
         self.covers = [cover_on(plan.roster, day) for day in range(plan.days)]
         # (S1 of each shift and skill)
         self.staffing = {at: self.staffing_of(at) for at in plan.case.needs}
+
+    def of_other(self, plan: Plan) -> "Costing":
+        """The costs of another roster of the same case, of which only the rows that are other are counted again."""
+        found, was = copy.copy(self), self.plan.roster
+        changed = [number for number, row in enumerate(plan.roster) if row != was[number]]
+        found.plan, found.of_nurses, found.covers = plan, [*self.of_nurses], [*self.covers]
+        for number in changed:
+            found.of_nurses[number] = self.of_nurse(number, plan.roster[number])
+        for day in {day for number in changed for day in range(plan.days) if was[number][day] != plan.roster[number][day]}:
+            found.covers[day] = cover_on(plan.roster, day)
+        found.staffing = {at: found.staffing_of(at) for at in plan.case.needs}
+        return found
 
     def runs(self, number: int, row: Row) -> tuple[int, int]:
         """S2 and S3: runs of working days and of shifts, and runs of days off."""

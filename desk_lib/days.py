@@ -45,6 +45,11 @@ def with_day_texts(line: str) -> str:
     return PROGRAM_DAY.sub(lambda match: day_text(7 * int(match[1]) + DAY_OF[match[2].encode()]), line)
 
 
+def with_dates(line: str) -> str:
+    """The same if the first Monday is known; else the line as it is."""
+    return with_day_texts(line) if Calendar.start else line
+
+
 def column_name(day: int) -> str:
     """A day as it heads a column of a table without dates."""
     return f"week {day // 7} {day_name(day)}"
@@ -53,6 +58,11 @@ def column_name(day: int) -> str:
 def day_word(day: int) -> str:
     """The word that names a day."""
     return f"{day // 7}:{day_name(day)}"
+
+
+def asked_day(day: int) -> str:
+    """A day as a line of an ask names it: by its date if the first Monday is known."""
+    return day_word(day) if Calendar.start is None else str(Calendar.start + datetime.timedelta(day))
 
 
 def date_in(word: str) -> datetime.date:

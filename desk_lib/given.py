@@ -123,6 +123,10 @@ def check_written(options: Options) -> None:
 def ward_in(options: Options) -> "Ward | None":
     """The ward that the command line names in the place of the files, if it does."""
     wards = [name for name in options.common.files if naming.is_ward(name)]
+    for kind, names in (*options.common.by_kind.items(), ("with", options.common.other or ())):
+        for name in filter(naming.is_ward, names):
+            instead = "'desk diff' compares two versions of a ward" if kind == "with" else "it stands in the place of all files"
+            raise DeskError(f"--{kind} {shown(name)}: this is a ward; {instead}", 2)
     if not wards:
         return None
     # (the words of a swap's days stand before the files)
@@ -197,9 +201,12 @@ def read_files(named: list[tuple[str, str]]) -> list[Text]:
 
 def from_input() -> Texts:
     try:
-        return Texts([Text("standard input", sys.stdin.buffer.read())], is_stream=True)
+        data = b"" if sys.stdin.isatty() else sys.stdin.buffer.read()
     except (OSError, AttributeError) as why:
         raise DeskError("standard input: read failed; name the files", 3) from why
+    if not data.strip():
+        raise DeskError("no file is named, and standard input is empty; name the files, or a ward", 2)
+    return Texts([Text("standard input", data)], is_stream=True)
 
 
 def settled(options: Options) -> Given:
@@ -280,7 +287,8 @@ def second_in(names: list[str], plan: Plan) -> list[Text]:
     try:
         return [table_in.solutions_in(text, plan.case) for text in texts]
     except DeskError as why:
-        raise DeskError(f"--with {' '.join(map(shown, names))}: {why}", why.status) from None
+        named = " ".join(map(shown, names))
+        raise DeskError(f"--with {named}: {str(why).removeprefix(f'{named}: ')}", why.status) from None
 
 
 def taken_second(roster: Program, word: str, texts: Texts, names: list[str]) -> Plan:
@@ -289,7 +297,7 @@ def taken_second(roster: Program, word: str, texts: Texts, names: list[str]) -> 
     answer = roster.call([word], texts.joined)
     if answer.status == 1:
         line = answer.last()
-        message = f"--with {' '.join(map(shown, names))}: {program.located(line, texts)}{check.place_of(texts, line)}"
+        message = f"--with {' '.join(map(shown, names))}: {program.said_of(line, texts)}"
         raise DeskError(f"{message}; 'desk check' with this roster instead of the first reports all that is wrong")
     if answer.status:
         raise program.refusal(word, answer, texts)

@@ -42,6 +42,8 @@ KINDS = {
     b"PK\x03\x04": "a ZIP archive, as .xlsx, .ods and .docx are",
     b"\xd0\xcf\x11\xe0": "an old .xls or .doc",
     b"%PDF": "a PDF",
+    b"\x89PNG": "a picture",
+    b"\xff\xd8\xff": "a picture",
     b"<": "XML or HTML",
     b"{": "JSON",
     b"[": "JSON",

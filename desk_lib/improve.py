@@ -12,7 +12,7 @@ from desk_lib.model import Plan
 from desk_lib.program import Answer, Program, costs_by, plan_in, refusal
 from desk_lib.replacing import Replacement, bytes_of, keep_next_to, read_back
 from desk_lib.signals import Interrupted, held_back, within_time
-from desk_lib.texts import DeskError, Text, Texts, plural, shown
+from desk_lib.texts import SO_FAR, DeskError, Text, Texts, plural, shown
 
 # How many searches `plan` is given one after the other, up to the number or the time that is given. If neither is, the program
 # takes this number for each nurse, and that number at least.
@@ -60,6 +60,9 @@ class Progress:
                 self.log.write("".join(f"{line}\n" for line in ending).encode())
                 self.log.close()
 
+    def saved(self, total: int) -> None:
+        """A roster of this penalty is in the file, and stays there if the run is ended now. Here nothing is said of it."""
+
     def show(self, what: str, total: int, more: str = "") -> None:
         """The line that changes."""
         self.show_text(f"{what}: {total}{self.bound_search.short_clause(total) if self.is_terminal else ''}{more}")
@@ -78,6 +81,10 @@ class Progress:
         elif text and (self.bound_search.known is not None or self.bound_search.is_wanted):
             sys.stderr.write(f"desk: {text}\n")
         sys.stderr.flush()
+
+
+# What makes the progress of a run: of the name of its log, its search for a bound, and whether it is to be quiet.
+Watching = collections.abc.Callable[[str | None, BoundSearch, bool], Progress]
 
 
 class Out(typing.NamedTuple):
@@ -112,7 +119,7 @@ class Run:
         self.there = bytes_of(self.out)
 
     def texts(self) -> Texts:
-        return Texts([*self.before.texts, Text("the roster so far", self.solutions)])
+        return Texts([*self.before.texts, Text(SO_FAR, self.solutions)])
 
     def save(self, solutions: bytes, total: int, what: str) -> None:
         """Replaces the file, once the roster has been read back and costs what the log says."""
@@ -126,6 +133,7 @@ class Run:
             self.look(solutions, f"after {what}, which costs {cost}")
             new.put()
             self.solutions, self.there, self.total, self.saved = solutions, solutions, cost, what
+        self.progress.saved(cost)
 
     def kept(self, texts: Texts) -> int:
         """What --keep adds in a log to the penalty of a roster."""

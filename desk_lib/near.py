@@ -19,7 +19,7 @@ from desk_lib.model import Plan, solutions_of, without_absent
 from desk_lib.program import Answer, Running, costs_by, plan_in, refusal
 from desk_lib.signals import within_time
 from desk_lib.tables import aligned
-from desk_lib.texts import DeskError, Text, Texts, plural, shown
+from desk_lib.texts import SO_FAR, DeskError, Text, Texts, plural, shown
 from desk_lib.trimming import Trimming
 
 # How many rosters are tried in which each nurse who is missed is one who changes on that day alone.
@@ -77,7 +77,7 @@ class Repair:
         return self.with_solutions(solutions_of(self.plan.case, roster))
 
     def with_solutions(self, solutions: bytes) -> Texts:
-        return Texts([*self.run.before.texts, Text("the roster so far", solutions)])
+        return Texts([*self.run.before.texts, Text(SO_FAR, solutions)])
 
     def take(self, how: str, answer: Answer, keep: int = 0) -> Near:
         """Takes a roster that the program wrote. The penalty in its log has to be what the roster costs."""

@@ -186,6 +186,7 @@ class ImproveOptions(Options):
     seeds: list[int] | None
     slice: int | None
     log: str | None
+    publish: bool = False
 
     @property
     def may_lack_solutions(self) -> bool:

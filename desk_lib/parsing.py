@@ -45,6 +45,13 @@ def since_in(word: str) -> str:
     return word if is_day(os.fsencode(word)) and ".." not in word else str(number_in(0, 52)(word))
 
 
+def today_in(word: str) -> str:
+    """Reads the day that is today. 0, as if the option weren't there, is none."""
+    if word != "0" and (not is_day(os.fsencode(word)) or ".." in word):
+        raise argparse.ArgumentTypeError(f"'{shown(word)}' stands here, and a day is due, as 2026-11-04 or 0:Wed")
+    return word
+
+
 def seeds_in(word: str) -> list[int]:
     """Reads the first and the last of several seeds, as 1-8."""
     ends = word.split("-")
@@ -58,6 +65,21 @@ def seeds_in(word: str) -> list[int]:
 
 class Parser(argparse.ArgumentParser):
     """Reports in one line what is wrong."""
+
+    # The words of the command that may be left out, and may stand after an option.
+    later = ""
+
+    def options(self) -> list[str]:
+        """The options that it takes."""
+        return [word for word in self._option_string_actions if word.startswith("--")]
+
+    def with_later(self, values: dict[str, typing.Any], more: list[str]) -> dict[str, typing.Any]:
+        """The words that came after an option, as a value of the command."""
+        if not more:
+            return {}
+        if not self.later:
+            self.error(f"unrecognized arguments: {' '.join(more)}")
+        return {self.later: [*values[self.later], *more]}
 
     def parse_known_args(self, args: typing.Any = None, namespace: typing.Any = None) -> typing.Any:
         for word in args or ():
@@ -130,13 +152,13 @@ def with_first_week(parser: argparse.ArgumentParser, use: str) -> None:
 
 def command(
     commands: Commands, name: str, run: Run, kind: type[Options], summary: str, more: str = "", epilog: str = FILES
-) -> argparse.ArgumentParser:
+) -> Parser:
     """A command of the desk, with the kind of its options."""
     described = f"{summary[0].upper()}{summary[1:]}.{more}"
     parser = commands.add_parser(
         name, help=summary, description=described, epilog=epilog, formatter_class=Formatter, allow_abbrev=False
     )
-    parser.set_defaults(run=run, kind=kind)
+    parser.set_defaults(run=run, kind=kind, parser=parser)
     return parser
 
 

@@ -22,6 +22,10 @@ LIBC = ctypes.CDLL(None)
 SET_DEATH_SIGNAL = 1
 # How much of a log is read at once, in bytes.
 AT_ONCE = 65_536
+# How long texts may be in which the desk looks for what the program's line of a fault doesn't say, in bytes.
+LOOKED_THROUGH = 1_000_000
+# A fault line of the program that names a line.
+LINE = re.compile(r"line (\d+): (.*)", re.S)
 
 
 @dataclasses.dataclass
@@ -131,7 +135,7 @@ def refusal(words: str, answer: Answer, texts: Texts) -> DeskError:
     states = too_many(texts.joined, answer.last())
     if states:
         return DeskError(f"{answer.last()}{states}", answer.status)
-    message = f"{located(answer.last(), texts)}; 'desk check' with these files reports all that is wrong"
+    message = f"{said_of(answer.last(), texts)}; 'desk check' with these files reports all that is wrong"
     return DeskError(message, answer.status)
 
 
@@ -192,9 +196,19 @@ def unknown(command: str) -> DeskError:
     return DeskError(f"{message} ('roster --help' lists its commands)", 2)
 
 
+def said_of(line: str, texts: Texts) -> str:
+    """A fault line of the program as `desk check` puts it, with what stands there; the program's own words if the texts are long."""
+    if len(texts.joined) > LOOKED_THROUGH:
+        return located(line, texts)
+    # (that module needs this one)
+    from desk_lib.check import first_fault
+
+    return first_fault(texts, line)
+
+
 def located(line: str, texts: Texts) -> str:
     """A fault line of the program, with its file and the line there instead of the line of all files together."""
-    match = re.fullmatch(r"line (\d+): (.*)", line, re.S)
+    match = LINE.fullmatch(line)
     return f"{texts.place(texts.line_start(int(match[1])))}: {match[2]}" if match else line
 
 
@@ -202,7 +216,8 @@ def find(path: str | None) -> Program:
     """The program: the one named, or that of this repository, if it is built."""
     path = path or os.environ.get(VARIABLE)
     if path:
-        return known(Program(path))
+        # (a name without a folder is one of this folder first, and else a command)
+        return known(Program(os.path.join(".", path) if os.path.exists(path) else path))
     built = f"{TOP}/out/roster"
     if not is_built(built):
         how = "isn't built yet" if not os.path.isfile(built) else "was built of other sources"

@@ -9,7 +9,7 @@ import dataclasses
 import itertools
 
 from desk_lib.case import Case, ShiftSkill
-from desk_lib.days import day_text, day_word
+from desk_lib.days import asked_day, day_text
 from desk_lib.model import Plan
 from desk_lib.texts import plural, shown
 
@@ -28,7 +28,7 @@ class Shortage:
 
     def line(self, case: Case) -> str:
         """The shortage in words, with the lines of asks that lower the minimums."""
-        asks = " and ".join(f"need {day_word(self.day)} {slot_name(case, slot)} {least}" for slot, least in self.met)
+        asks = " and ".join(f"need {asked_day(self.day)} {slot_name(case, slot)} {least}" for slot, least in self.met)
         return f"{day_text(self.day)} needs {self.needed} {self.named(case)}, {self.coming} can come: {asks}"
 
     def named(self, case: Case) -> str:

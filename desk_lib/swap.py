@@ -4,7 +4,7 @@ import os
 
 from desk_lib.breaches import Breach, all_breaches, breach_lines, frozen_changes, without_rules
 from desk_lib.costs import Costing
-from desk_lib.days import is_day
+from desk_lib.days import is_day, with_dates
 from desk_lib.model import Plan, solutions_of
 from desk_lib.program import Program, costs_by
 from desk_lib.replacing import read_back
@@ -51,7 +51,7 @@ class Swap:
         """What changes, what that breaks, and what it costs. If a nurse would need a skill that she lacks, there is no cost."""
         broken, old = self.breaches(), self.costing(self.texts[0], self.old)
         sheet = Sheet(Costing(self.new), self.old.roster, self.first_week)
-        lines = [*change_lines(sheet), *(f"breaks {line}" for line in breach_lines(broken))]
+        lines = [*change_lines(sheet), *(f"breaks {with_dates(line)}" for line in breach_lines(broken))]
         if any(breach.rule == "H4" for breach in broken):
             return lines
         was, now = old.totals_by_rule(), self.costing(self.texts[1], self.new).totals_by_rule()

@@ -4,9 +4,9 @@ import re
 import unicodedata
 
 from desk_lib.case import Case, Choice, Roster
-from desk_lib.days import column_name, monday_in
+from desk_lib.days import Calendar, column_name, monday_in
 from desk_lib.findings import nearest
-from desk_lib.grammar import Fault, Words, read_bundle
+from desk_lib.grammar import WORD, Fault, Words, read_bundle
 from desk_lib.model import choice_name, plan_of, solution_pieces, with_no_solutions
 from desk_lib.spreadsheet import UTF16, dates_of, days_in_heads, decoded, is_xlsx
 from desk_lib.texts import UTF8_MARK, DeskError, Origin, Place, Text, Texts, plural, shown
@@ -142,6 +142,8 @@ class Table:
         try:
             for date in first if len(first) == 1 else ():
                 monday_in(str(date))
+                if Calendar.start not in (None, date):
+                    raise DeskError(f"the table begins on {date}, and the roster on {Calendar.start}")
         except DeskError as not_monday:
             at, why = 0, str(not_monday)
         if why:
@@ -155,7 +157,8 @@ class Table:
         number = self.numbers.get(name.word)
         if number is None:
             near = nearest(name.word.encode(), [known.encode() for known in self.numbers])
-            self.note(name, f"the scenario has no nurse {name}{near}")
+            open_quote = "; the quotation mark before it has no second one" if name.word.startswith('"') else ""
+            self.note(name, f"the scenario has no nurse {name}{near}{open_quote}")
         elif number in self.of_nurses:
             first = Wrong(self.of_nurses[number], "").place(self.text).line
             self.note(name, f"the nurse {name} stands here a second time; the first is in line {first}")
@@ -217,9 +220,17 @@ def table_in(texts: list[Text]) -> Table | None:
 
 
 def solutions_in(text: Text, case: Case) -> Text:
-    """A text of solutions: this one, or those of a table, in which nothing may be wrong."""
+    """A text of solutions: this one, which has to begin as such, or those of a table, in which nothing may be wrong."""
     text = as_table(text)
-    return right(Table(text, case)).solutions() if begin_of(text) else text
+    if begin_of(text):
+        return right(Table(text, case)).solutions()
+    first = WORD.search(text.data)
+    if not first or first[0] != b"SOLUTION":
+        what = f"it begins with '{shown(first[0][:LONGEST])}'" if first else "it is empty"
+        raise DeskError(
+            f"{shown(text.name)}: {what}, and solutions are due, which begin with SOLUTION, or a table as 'desk csv' writes"
+        )
+    return text
 
 
 def right(table: Table) -> Table:

@@ -10,6 +10,8 @@ KINDS = {"sce": "scenario", "his": "history", "weeks": "week data", "sols": "sol
 
 # What an editor may begin a text with.
 UTF8_MARK = b"\xef\xbb\xbf"
+# What the solutions of a run are called that are in no file yet.
+SO_FAR = "the roster so far"
 
 # How many bytes of a line are kept before a word and after it.
 AROUND = 400

@@ -30,7 +30,7 @@ class Open:
 
     def name(self, plan: Plan) -> str:
         skill = "" if self.skill is None else f" {shown(plan.case.skills[self.skill])}"
-        return f"{day_word(self.day)} {shown(plan.case.shifts[self.shift].name)}{skill}"
+        return f"{day_text(self.day)} {shown(plan.case.shifts[self.shift].name)}{skill}"
 
     def words(self, plan: Plan) -> list[str]:
         """The words for the program that name it."""
@@ -73,6 +73,19 @@ def all_open(plan: Plan, first_week: int) -> list[Open]:
     return sorted(shift for shift in found if shift.day not in frozen)
 
 
+@dataclasses.dataclass(frozen=True)
+class Taker:
+    """What a nurse who may take a shift comes to: what the roster then costs, how many days of hers change, and how many more nurses
+    minimums lack, if the program says so."""
+
+    penalty: int
+    changed: int
+    missed: int | None
+
+    def text(self) -> str:
+        return f"{self.penalty}, {plural(self.changed, 'day')}" + ("" if self.missed is None else f", {self.missed} missed")
+
+
 class Takers:
     """Who may take shifts of a plan, in which absent nurses don't come."""
 
@@ -83,21 +96,28 @@ class Takers:
         self.texts = texts.before(plan.solutions_offset(), [text])
         self.numbers = {shown(nurse.name): number for number, nurse in enumerate(plan.case.nurses)}
 
-    def of(self, wanted: Open) -> dict[int, str]:
+    def counts(self, wanted: Open) -> dict[int, "Taker"]:
         """What the program says of each nurse who may take a shift, in its order."""
         answer = self.program.ask(["who", *wanted.words(self.plan), *words_of(self.first_week)], self.texts)
         found = {}
         for line in answer.output.decode("utf-8", "surrogateescape").splitlines():
             name, cost, *rest = line.split(" ")
             counts = dict(zip(rest[0::2], map(int, rest[1::2])))
-            missed = f", {counts['missed']} missed" if "missed" in counts else ""
-            found[self.numbers[shown(name)]] = f"{cost}, {plural(counts['changed'], 'day')}{missed}"
+            found[self.numbers[shown(name)]] = Taker(int(cost), counts["changed"], counts.get("missed"))
         return found
+
+    def of(self, wanted: Open) -> dict[int, str]:
+        """The same in words."""
+        return {nurse: taker.text() for nurse, taker in self.counts(wanted).items()}
+
+    def penalty(self) -> int:
+        """What the roster costs without those who are absent, whatever it breaks."""
+        return costs_by(self.program, without_rules(self.texts, self.plan))["total"]
 
     def lines(self, opens: list[Open]) -> list[str]:
         """A table of those who may take a shift, and for each shift that nobody may take the reasons."""
         found = [self.of(wanted) for wanted in opens]
-        cost = costs_by(self.program, without_rules(self.texts, self.plan))["total"]
+        cost = self.penalty()
         below = below_minimum(self.plan)
         heads = [wanted.name(self.plan) + "!" * (wanted in below) for wanted in opens]
         if len(found) == 1:

@@ -658,15 +658,23 @@ class Words:
     """The words of the texts, in their order."""
 
     def __init__(self, text):
-        self.left = collections.deque(re.findall(r"[(),=]|[^\s(),=]+", text))
+        self.left = collections.deque(re.findall(r"[(),=]|[^ \t\r\n(),=]+", text))
 
-    def next(self, *before):
-        """The next word, after these."""
-        for expected in before:
+    def skip(self, *due):
+        """Goes on after these words."""
+        for expected in due:
             found = self.left.popleft()
             if found != expected:
                 raise ValueError(f"{expected} is missing before {found}")
+
+    def next(self, *before):
+        """The next word, after these."""
+        self.skip(*before)
         return self.left.popleft()
+
+    def begins(self, keyword):
+        """Whether a section with a count begins here; a name may be the same word."""
+        return self.left[0] == keyword and self.left[1] == "="
 
     def number(self, *before):
         return int(self.next(*before))
@@ -686,7 +694,11 @@ def scenario_of(words):
     skills = words.names(words.number("SKILLS", "="))
     shifts = [Shift(words.next(), words.pair()) for _ in range(words.number("SHIFT_TYPES", "="))]
     shift_of = {shift.name: number for number, shift in enumerate(shifts)}
-    lines = [(words.next(*([] if at else ["FORBIDDEN_SHIFT_TYPES_SUCCESSIONS"])), words.names(words.number())) for at in range(len(shifts))]
+    words.skip("FORBIDDEN_SHIFT_TYPES_SUCCESSIONS")
+    lines = []
+    # (not each shift has a line)
+    while not words.begins("CONTRACTS"):
+        lines.append((words.next(), words.names(words.number())))
     forbidden = {(shift_of[first], shift_of[second]) for first, others in lines for second in others}
     of_contract, contracts = {}, []
     for number in range(words.number("CONTRACTS", "=")):
@@ -713,18 +725,16 @@ def read(text):
         nurses[number] = nurses[number]._replace(history=History(*totals, last, *(words.number() for _ in range(3))))
     none = Limits(0, 0)
     for week in range(case.weeks):
-        words.next("WEEK_DATA", case.name)
-        while (shift := words.next()) != "SHIFT_OFF_REQUESTS":
-            need = needs.setdefault((shift_of[shift], case.skills.index(words.next())), [none] * (7 * case.weeks))
+        words.skip("WEEK_DATA", case.name, "REQUIREMENTS")
+        while not words.begins("SHIFT_OFF_REQUESTS"):
+            need = needs.setdefault((shift_of[words.next()], case.skills.index(words.next())), [none] * (7 * case.weeks))
             need[7 * week : 7 * week + 7] = [words.pair() for _ in DAYS]
-        for asked in (requests, wishes):
-            if asked is wishes and words.left[0] != "SHIFT_ON_REQUESTS":
-                break
-            for _ in range(words.number(*(["SHIFT_ON_REQUESTS"] if asked is wishes else []), "=")):
+        for keyword, asked in (("SHIFT_OFF_REQUESTS", requests), ("SHIFT_ON_REQUESTS", wishes)):
+            for _ in range(words.number(keyword, "=") if words.begins(keyword) else 0):
                 nurse, shift, day = words.names(3)
                 asked.add((nurse_of[nurse], shift_of.get(shift), 7 * week + DAYS.index(day[:3])))
         for keyword, days in (("ABSENCES", absences), ("FIXED", fixed)):
-            for _ in range(words.number(keyword, "=") if words.left[0] == keyword else 0):
+            for _ in range(words.number(keyword, "=") if words.begins(keyword) else 0):
                 nurse, day = words.names(2)
                 days.add((nurse_of[nurse], 7 * week + DAYS.index(day[:3])))
     roster = [[None] * (7 * case.weeks) for _ in nurses]

@@ -27,7 +27,7 @@ from desk_lib.ward.texts import asks_text, clipped, days_of, known_forms, spans_
 
 # A day of a month in words, with the weekday before it and the year after it if they are there.
 OF_MONTH = re.compile(
-    rf"(?:(?P<weekday>[A-Z][a-z]+)[ ,]+)?(?P<day>\d{{1,2}})\.? ?(?P<month>{'|'.join(MONTHS)})[a-z]*(?: (?P<year>\d{{4}}))?\b"
+    rf"(?:(?P<weekday>[a-z]+)[ ,]+)?(?P<day>\d{{1,2}})\.? ?(?P<month>{'|'.join(MONTHS)})[a-z]*(?: (?P<year>\d{{4}}))?\b", re.I
 )
 # How long a line of an ask may be.
 LONGEST = 4000
@@ -43,6 +43,8 @@ class Reader:
     def lines(self, said: str) -> list[bytes]:
         """The lines to be kept for a line that was written."""
         words = os.fsencode(self.with_dates(said)).split()
+        if '"' in said:
+            raise DeskError("a quotation mark is part of no name; write the names without", 2)
         if not words or words[0] not in FORMS or words[0] in (b"today", b"start"):
             stands = f"'{shown(words[0])}' stands here" if words else "this is empty"
             raise DeskError(f"{stands}, and one of these is due: {'; '.join(known_forms())}", 2)
@@ -53,6 +55,8 @@ class Reader:
         if len(words) - 1 < least or not words[at]:
             raise DeskError(f"the form of this ask is '{form}', with days as 2026-11-02, Wed..Fri or 4 Nov", 2)
         words[at] = [self.dated(word) for word in words[at]]
+        if words[0] in (b"duty", b"need") and TO in b" ".join(words[at]):
+            raise DeskError(f"'{shown(words[0])}' is of one day; make an ask of each day", 2)
         if words[0] != b"need":
             words[1] = self.nurse(words[1])
         return self.of_pin(words) if words[0] == b"pin" else [b" ".join(words)]
@@ -72,8 +76,8 @@ class Reader:
         return OF_MONTH.sub(self.date_of_month, said)
 
     def date_of_month(self, match: re.Match[str]) -> str:
-        weekday, month = match["weekday"], MONTHS.index(match["month"]) + 1
-        is_weekday = weekday is not None and weekday.encode() in DAY_OF
+        weekday, month = match["weekday"], MONTHS.index(match["month"].capitalize()) + 1
+        is_weekday = weekday is not None and weekday.capitalize().encode() in DAY_OF
         before = f"{weekday} " if weekday is not None and not is_weekday else ""
         years = [int(match["year"])] if match["year"] else [self.start.year, self.start.year + 1]
         found = [date for date in (made_date(year, month, int(match["day"])) for year in years) if date]
@@ -81,13 +85,17 @@ class Reader:
         if not found:
             raise DeskError(f"'{match['day']} {match['month']}': there is no such date", 2)
         date = found[0]
-        if is_weekday and weekday is not None and DAY_OF[weekday.encode()] != date.weekday():
+        if is_weekday and weekday is not None and DAY_OF[weekday.capitalize().encode()] != date.weekday():
             raise DeskError(f"'{shown(match[0])}': {date} is a {date:%A}; name one of the two days", 2)
         return f"{before}{date}"
 
     def dated(self, word: bytes) -> bytes:
         """A word for days with dates in it."""
         first, to, last = word.partition(TO)
+        if word in self.nurses:
+            raise DeskError(f"'{shown(word)}' is a nurse, and a day is due; make an ask of each nurse", 2)
+        if to and not (first and last):
+            raise DeskError(f"'{shown(word)}' stands here, and days are due, as Wed..Fri or 2026-11-04..2026-11-06", 2)
         begin = self.date(first, self.today)
         end = self.date(last, begin) if to else begin
         if end < begin:
@@ -96,7 +104,8 @@ class Reader:
 
     def date(self, word: bytes, since: datetime.date | None) -> datetime.date:
         """The date of a day. A weekday alone is the next one."""
-        if word in DAY_OF:
+        if word.capitalize() in DAY_OF:
+            word = word.capitalize()
             if since is None:
                 message = f"'{shown(word)}': of which week isn't known, since today is none of the ward's days"
                 raise DeskError(f"{message}; name the date, as {self.start}, or say by --from which day is today", 2)
@@ -107,9 +116,8 @@ class Reader:
         if date < self.start:
             raise DeskError(f"'{shown(word)}': the ward's first day is {self.start}", 2)
         if self.today and date < self.today:
-            raise DeskError(
-                f"'{shown(word)}': {date} is past, since today is {self.today}, and stays as it was; name a later day", 2
-            )
+            of = "" if shown(word) == str(date) else f"'{shown(word)}': "
+            raise DeskError(f"{of}{date} is past, since today is {self.today}, and stays as it was; name a later day", 2)
         return date
 
     # ---- what the roster says now
@@ -166,30 +174,39 @@ def said_lines(words: list[str]) -> list[str]:
 
 
 def run_ask(options: AskOptions, given: Given, _: Program) -> int:
-    """Adds asks. They go with any version, so that of two commands at once neither loses its own."""
-    with changing(ward_of(given), is_strict=False) as writer:
-        assert writer.ward
-        ward = writer.ward
-        plan = plan_of(ward)
-        new = new_asks(Reader(ward, plan, today_in(given)), said_lines(options.line))
-        asks = tuple(map(writer.ask, new))
-        state = dataclasses.replace(ward.state, asks=(*ward.state.asks, *asks))
-        found = taken_asks(with_state(ward, state), plan, given, asks)
-        writer.add_version("ask: " + "; ".join(shown(ask.line) for ask in asks)[:200], state)
+    """Adds asks."""
+    asks, found, ward = added(given, options.line)
     write([*(line_of(ask, ward) for ask in asks), *failing(found, {ask.number for ask in asks}, ward)])
     return 0
 
 
-def new_asks(reader: Reader, said: list[str]) -> list[Ask]:
-    """The asks of lines that were written, none of which is there already."""
+def added(given: Given, words: list[str], may_be_there: bool = False) -> tuple[tuple[Ask, ...], Asks, Ward]:
+    """Adds the asks of these words, but for those that may be there already; returns the new ones, all asks, and the ward that they were
+    added to. They go with any version, so that of two commands at once neither loses its own."""
+    with changing(ward_of(given), is_strict=False) as writer:
+        assert writer.ward
+        ward = writer.ward
+        plan = plan_of(ward)
+        new = new_asks(Reader(ward, plan, today_in(given)), said_lines(words), may_be_there)
+        asks = tuple(map(writer.ask, new))
+        state = dataclasses.replace(ward.state, asks=(*ward.state.asks, *asks))
+        found = taken_asks(with_state(ward, state), plan, given, asks)
+        if asks:
+            writer.add_version("ask: " + "; ".join(shown(ask.line) for ask in asks)[:200], state)
+    return asks, found, ward
+
+
+def new_asks(reader: Reader, said: list[str], may_be_there: bool = False) -> list[Ask]:
+    """The asks of lines that were written, none of which is there already; one that is there is refused unless it may be."""
     known, found = {ask.line for ask in reader.ward.state.asks}, list[Ask]()
     for line in said:
         try:
             for data in reader.lines(line):
-                if data in known:
+                if data not in known:
+                    known.add(data)
+                    found.append(Ask(data, author(), moment()))
+                elif not may_be_there:
                     raise DeskError("this is asked for already")
-                known.add(data)
-                found.append(Ask(data, author(), moment()))
         except DeskError as why:
             raise DeskError(f"ask '{shown(line)[:80]}': {why}; nothing was changed", why.status) from None
     return found
@@ -210,6 +227,8 @@ def taken_asks(ward: Ward, plan: Plan, given: Given, new: tuple[Ask, ...] = ()) 
         for ask in new:
             # (its number is nothing that the planner knows)
             message = message.replace(f"{place(text, ask.number)}: ", f"ask '{shown(ask.line)}': ")
+            said = f"by '{shown(ask.line)}'".replace("\\", "\\\\")
+            message = re.sub(rf"\bin ask {ask.number}\b", said, message)
         other = f". 'desk unask {shown(ward.name)} N' takes ask N away" if "in ask " in message else ""
         raise DeskError(f"{message}; nothing was changed{other}", 1) from None
 

@@ -25,3 +25,11 @@ run_repair, run_take, run_publish = (of("rosters", name) for name in ("run_repai
 run_versions, run_undo, run_redo = (of("versions", name) for name in ("run_versions", "run_undo", "run_redo"))
 run_diff, run_backup = of("versions", "run_diff"), of("versions", "run_backup")
 run_export, run_next = of("months", "run_export"), of("months", "run_next_ward")
+
+
+def run_serve(options: typing.Any, given: Given, roster: Program) -> int:
+    """Shows a ward in a browser."""
+    # (other commands start the quicker without this import)
+    from desk_lib.serve import starting
+
+    return starting.run_serve(options, given, roster)

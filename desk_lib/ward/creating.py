@@ -50,10 +50,9 @@ def by_folder(given: Given) -> Given:
         raise DeskError(f"{shown(files[0])}: read failed: {why.strerror}; give a folder that can be read", 3) from None
     for kind in ("scenario", "history"):
         if len(found[kind]) != 1:
-            has = " and ".join(shown(os.path.basename(name)) for name in found[kind]) or "none"
-            raise DeskError(
-                f"{shown(files[0])}: the folder has {has} as {kind}; name the files by --sce, --his, --weeks and --sols", 2
-            )
+            has = " and ".join(shown(os.path.basename(name)) for name in found[kind])
+            what = f"of several files, {has}, each is a {kind}" if has else f"no file in it is a {kind}"
+            raise DeskError(f"{shown(files[0])}: {what}; name the files by --sce, --his, --weeks and --sols", 2)
     texts = dict(zip(("sce", "his", "weeks", "sols"), (found[kind] for kind in PARTS.values())))
     common = dataclasses.replace(given.options.common, files=[], **texts)
     return dataclasses.replace(given, options=dataclasses.replace(given.options, common=common))
@@ -107,6 +106,9 @@ def run_new(options: NewOptions, given: Given, roster: Program) -> int:
     name = options.ward
     if not name.endswith(ENDING):
         raise DeskError(f"{shown(name)}: the name of a ward ends with {ENDING}, as {shown(name)}{ENDING}", 2)
+    if given.ward:
+        message = f"{shown(given.ward.name)}: this is a ward already"
+        raise DeskError(f"{message}; 'desk backup' copies it, and 'desk next' makes the ward of the month after", 2)
     check_new(name, "new ward")
     start = given.start
     if start is None:

@@ -119,7 +119,8 @@ def error_of(name: str, why: sqlite3.Error) -> DeskError:
     if "disk is full" in said:
         return DeskError(f"{shown(name)}: write failed: the disk is full; nothing was changed. Free some space on that disk", 3)
     if "readonly" in said or "read-only" in said or "unable to open" in said:
-        return DeskError(f"{shown(name)}: this ward can't be written: {said}; nothing was changed", 3)
+        message = f"{shown(name)}: this ward can't be written: {said}; nothing was changed"
+        return DeskError(f"{message}. 'desk backup {shown(name)} FILE' makes a copy of your own", 3)
     if "disk I/O" in said:
         return DeskError(f"{shown(name)}: reading or writing failed: {said}; nothing was changed. Look at that disk", 3)
     return damaged(name, said)
@@ -186,6 +187,9 @@ def seal(connection: sqlite3.Connection, handle: int) -> None:
             # (SQLite takes its lock, and reads what the file has)
             connection.execute("SELECT count(*) FROM sqlite_schema").fetchone()
             length, due = seal_of(handle)
+            # (the old one goes first: half of a new one in it would be neither)
+            os.ftruncate(handle, length)
+            os.fsync(handle)
             os.pwrite(handle, due, length)
             os.fsync(handle)
         finally:

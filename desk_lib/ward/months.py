@@ -48,7 +48,13 @@ def asks_after(ward: Ward, start: datetime.date, left: set[bytes]) -> tuple[Ask,
 
 def run_next_ward(options: NextOptions, given: Given, roster: Program) -> int:
     """Makes the ward of the month after."""
-    ward, name = ward_of(given), options.folder
+    write([*lay_out(given, roster, options.folder, options.carry), f"'desk improve --plan {shown(options.folder)}' looks for a roster"])
+    return 0
+
+
+def lay_out(given: Given, roster: Program, name: str, has_totals: bool) -> list[str]:
+    """Makes the ward of the month after, with the totals up to now if they are to be there, and says what is in it."""
+    ward = ward_of(given)
     if not name.endswith(ENDING):
         raise DeskError(f"{shown(name)}: the name of a ward ends with {ENDING}, as {shown(name)}{ENDING}", 2)
     check_new(name, "new ward")
@@ -59,7 +65,7 @@ def run_next_ward(options: NextOptions, given: Given, roster: Program) -> int:
     texts = with_roster(ward, ward.state.roster.solutions)
     plan = program.taken(roster, texts)
     left = leavers(ward, plan)
-    files = next_month.next_files(plan, texts, "", options.carry, left)
+    files = next_month.next_files(plan, texts, "", has_totals, left)
     back = with_no_solutions(Texts([Text(f"{name} ({file})", data) for file, data in files]))
     roster.ask(["show"], back)
     start = ward.state.input.start + datetime.timedelta(days_of(ward))
@@ -77,8 +83,7 @@ def run_next_ward(options: NextOptions, given: Given, roster: Program) -> int:
     open_days = 0 if ward.state.publication is None else ward.state.publication.days
     if open_days < days_of(ward):
         lines.append(f"note: {shown(ward.name)} isn't published from {day_text(open_days)} on, and its roster may still change")
-    write([*lines, f"'desk improve --plan {shown(name)}' looks for a roster"])
-    return 0
+    return lines
 
 
 def run_export(options: ExportOptions, given: Given, roster: Program) -> int:

@@ -55,6 +55,8 @@ class RepairOptions(WardOptions):
     searches: int | None
     seconds: int | None
     seed: int | None
+    # (the asks that are added first)
+    line: list[str] = dataclasses.field(default_factory=list)
 
 
 @dataclasses.dataclass(frozen=True, eq=False, repr=False)
@@ -72,7 +74,15 @@ class PublishOptions(WardOptions):
 
     NEEDS_PROGRAM = True
 
+    what: list[str]
     until: str | None
+
+
+@dataclasses.dataclass(frozen=True, eq=False, repr=False)
+class MoveOptions(WardOptions):
+    """The options of `undo` and `redo`."""
+
+    count: int
 
 
 @dataclasses.dataclass(frozen=True, eq=False, repr=False)
@@ -105,3 +115,15 @@ class ExportOptions(WardOptions):
     NEEDS_PROGRAM = True
 
     folder: str
+
+
+@dataclasses.dataclass(frozen=True, eq=False, repr=False)
+class ServeOptions(WardOptions):
+    """The options of `serve`."""
+
+    NEEDS_PROGRAM = True
+    CHANGES_PUBLISHED = True
+
+    port: int
+    no_browser: bool
+    read_only: bool

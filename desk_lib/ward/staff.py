@@ -28,6 +28,10 @@ SHIFTS = {"Early": ((2, 5), "", 0.40), "Late": ((2, 5), "Early", 0.35), "Night":
 FULL, LEAST, WEEKENDS = 5.0, 0.75, 2
 # What of the staff that there is on a day the minimums and the optimums ask for.
 MINIMUM, OPTIMUM = 0.6, 0.85
+# What a contract has: three pairs, a number, and 1 or 0.
+CONTRACT = re.compile(r"(\( *\d{1,3} *, *\d{1,3} *\) *){3}\d{1,3} +[01]")
+# What a cell of a column of hours gets, so that it isn't taken for a percentage.
+HOURS = " hours"
 FULL_NAMES = {"fulltime": 100, "full": 100, "parttime": 60, "part": 60, "halftime": 50, "half": 50}
 
 
@@ -103,8 +107,12 @@ def nurses_in(name: str, rows: list[list[str]]) -> list[Nurse]:
                 f"{shown(name)}: row {number}: the nurse '{shown(who)}' stands here a second time; the first is in row {lines[who]}"
             )
         lines[who] = number
+        is_in_hours = at["contract"] is not None and heads[at["contract"]].casefold() == "hours"
+        contract = cells["contract"] + HOURS if is_in_hours and cells["contract"] else cells["contract"] or "100%"
+        if (percent_of(contract) or 0) > 100:
+            raise DeskError(f"{shown(name)}: row {number}: '{shown(contract)}' is more than full time, which is 100%")
         skills = tuple(word(skill) for skill in re.split(r"[;/|+,]|\s+and\s+", cells["skills"]) if word(skill))
-        found.append(Nurse(who, cells["contract"] or "100%", skills or ("Nurse",)))
+        found.append(Nurse(who, contract, skills or ("Nurse",)))
     if not found:
         raise DeskError(f"{shown(name)}: the table has heads and no nurse")
     return found
@@ -118,6 +126,12 @@ def percent_of(contract: str) -> int | None:
     if fraction:
         return round(100 * float(text.replace(",", ".")))
     return int(match[1]) if match else FULL_NAMES.get(text)
+
+
+def hours_of(contract: str) -> float | None:
+    """The hours a week of a contract that a table gives in hours."""
+    match = re.fullmatch(rf"(\d{{1,2}}(?:[.,]\d+)?){HOURS}", contract)
+    return float(match[1].replace(",", ".")) if match else None
 
 
 def contract_line(percent: int, weeks: int) -> str:
@@ -146,8 +160,9 @@ class Plan:
     def all_contracts(self) -> dict[str, tuple[str, int]]:
         """The name of each contract of the table, with its numbers and its part of full time."""
         found: dict[str, tuple[str, int]] = {}
+        by_hours = self.percents_by_hours()
         for contract in dict.fromkeys(nurse.contract for nurse in self.nurses):
-            percent = percent_of(contract)
+            percent = by_hours.get(contract) or percent_of(contract)
             if percent is None:
                 percent = self.questions.number(f"how many percent of full time is '{contract}'", 100, 100)
             name = word(contract) if not re.match(r"\d", contract) else f"Part{percent}" if percent < 100 else "FullTime"
@@ -155,12 +170,27 @@ class Plan:
             if known:
                 found[contract] = known, percent
                 continue
+            default = contract_line(percent, self.weeks)
             numbers = self.questions.ask(
                 f"contract {name}: assignments, working days in a row, days off in a row, weekends, whole weekends (1 or 0)",
-                contract_line(percent, self.weeks),
+                default,
             )
+            if not CONTRACT.fullmatch(numbers):
+                raise DeskError(f"contract {name}: '{shown(numbers)}': five are due, as {default}; nothing was made", 2)
             found[contract] = f"{name} {numbers}", percent
         return found
+
+    def percents_by_hours(self) -> dict[str, int]:
+        """How much of full time the contracts are that are given in hours a week."""
+        known = {nurse.contract: hours for nurse in self.nurses if (hours := hours_of(nurse.contract))}
+        if not known:
+            return {}
+        most = max(known.values())
+        answer = self.questions.ask("how many hours a week is full time", f"{most:g}")
+        full = hours_of(answer + HOURS)
+        if not full or full < most:
+            raise DeskError(f"full time: '{shown(answer)}': hours are due, {most:g} or more; nothing was made", 2)
+        return {contract: max(1, round(100 * hours / full)) for contract, hours in known.items()}
 
     def scenario(self) -> str:
         follow = {

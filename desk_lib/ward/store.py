@@ -386,6 +386,10 @@ class Writer:
             self.insert("candidate", state=state, number=number, roster=self.roster(candidate.roster), sha256=sha256, **values)
 
 
+class Outdated(DeskError):
+    """A change of a ward that has another version by now."""
+
+
 @contextlib.contextmanager
 def changing(seen: Ward, is_strict: bool = True) -> collections.abc.Iterator[Writer]:
     """A change of a ward that was read before. If it has another version by now, nothing is changed, unless the change is one that
@@ -395,7 +399,7 @@ def changing(seen: Ward, is_strict: bool = True) -> collections.abc.Iterator[Wri
         if is_strict and ward.current != seen.current:
             last = ward.current
             message = f"{shown(seen.name)}: meanwhile {last.author} made version {last.number} ({last.note})"
-            raise DeskError(f"{message}; nothing was changed. Give the command again", 3)
+            raise Outdated(f"{message}; nothing was changed. Give the command again", 3)
         yield Writer(connection, ward)
 
 

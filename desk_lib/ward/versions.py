@@ -5,13 +5,13 @@ import dataclasses
 from desk_lib import program
 from desk_lib.days import day_text
 from desk_lib.given import Given, write
-from desk_lib.model import choice_name, roster_in
+from desk_lib.model import roster_in
 from desk_lib.program import Program
 from desk_lib.texts import DeskError, plural, shown
 from desk_lib.ward import file
-from desk_lib.ward.options import BackupOptions, DiffOptions, WardOptions
-from desk_lib.ward.rosters import ward_of, with_roster
-from desk_lib.ward.store import REDO, UNDO, State, StoredRoster, Version, Ward, changing
+from desk_lib.ward.options import BackupOptions, DiffOptions, MoveOptions, WardOptions
+from desk_lib.ward.rosters import difference_lines, ward_of, with_roster
+from desk_lib.ward.store import REDO, UNDO, State, StoredRoster, Version, Ward, Writer, changing
 from desk_lib.ward.texts import texts_of
 
 
@@ -45,31 +45,49 @@ def run_versions(_: WardOptions, given: Given, __: Program) -> int:
     return 0
 
 
-def move(given: Given, kind: str) -> int:
-    """Adds a version that has the state of before, or one that was undone."""
+def move(options: MoveOptions, given: Given, kind: str) -> int:
+    """Adds a version for each change that is undone, or done again: it has the state of before it, or after it."""
     ward = ward_of(given)
     with changing(ward) as writer:
-        before, after = undone(ward.versions)
-        if kind == UNDO and len(before) < 2:
-            raise DeskError(f"{shown(ward.name)}: there is nothing to undo; this is the ward as it was made")
-        if kind == REDO and not after:
-            raise DeskError(f"{shown(ward.name)}: there is nothing to redo; nothing was undone since the last change")
-        target = ward.version(before[-2] if kind == UNDO else after[-1])
-        of = ward.version(before[-1]) if kind == UNDO else target
-        version = writer.add_version(f"{kind} of {note_of(of)}", target.state, kind, target.number)
-    has = f"it has the asks, the roster and the publication of version {target.number}"
-    write([f"{shown(ward.name)}: version {version.number}, {version.note}: {has}"])
+        check_moves(ward, kind, options.count)
+        versions = [moved(writer, kind) for _ in range(options.count)]
+    lines = [f"{shown(ward.name)}: version {version.number}, {version.note}" for version in versions]
+    write([*lines[:-1], f"{lines[-1]}: it has the asks, the roster and the publication of version {versions[-1].first}"])
     return 0
 
 
-def run_undo(_: WardOptions, given: Given, __: Program) -> int:
-    """Goes back by one change."""
-    return move(given, UNDO)
+def check_moves(ward: Ward, kind: str, count: int) -> None:
+    """Stops if there aren't as many changes to undo, or to do again."""
+    before, after = undone(ward.versions)
+    there = len(before) - 1 if kind == UNDO else len(after)
+    if not there:
+        why = "this is the ward as it was made" if kind == UNDO else "nothing was undone since the last change"
+        raise DeskError(f"{shown(ward.name)}: there is nothing to {kind}; {why}")
+    if count > there:
+        has = "there is 1 change" if there == 1 else f"there are {there} changes"
+        raise DeskError(f"{shown(ward.name)}: {kind} {count}: {has} to {kind}; nothing was changed", 2)
 
 
-def run_redo(_: WardOptions, given: Given, __: Program) -> int:
-    """Goes forward by one change that was undone."""
-    return move(given, REDO)
+def moved(writer: Writer, kind: str) -> Version:
+    """Adds the version for one change that is undone, or done again."""
+    assert writer.ward
+    ward = writer.ward
+    before, after = undone(ward.versions)
+    target = ward.version(before[-2] if kind == UNDO else after[-1])
+    of = ward.version(before[-1]) if kind == UNDO else target
+    version = writer.add_version(f"{kind} of {note_of(of)}", target.state, kind, target.number)
+    writer.ward = dataclasses.replace(ward, versions=(*ward.versions, version))
+    return version
+
+
+def run_undo(options: MoveOptions, given: Given, _: Program) -> int:
+    """Goes back by one change, or by several."""
+    return move(options, given, UNDO)
+
+
+def run_redo(options: MoveOptions, given: Given, _: Program) -> int:
+    """Goes forward by changes that were undone."""
+    return move(options, given, REDO)
 
 
 # ---- what differs
@@ -125,13 +143,8 @@ def roster_lines(ward: Ward, first: State, second: State) -> list[str]:
     with_state = dataclasses.replace(ward.current, state=second)
     plan = program.plan_in(texts_of(dataclasses.replace(ward, versions=(with_state,))))
     was = roster_in(with_roster(ward, first.roster.solutions))
-    count = 0
-    for nurse, old, new in zip(plan.case.nurses, was, plan.roster):
-        for day in (day for day in range(plan.days) if old[day] != new[day]):
-            count += 1
-            then, after = (choice_name(plan.case, choice) for choice in (old[day], new[day]))
-            lines.append(f"{shown(nurse.name)}, {day_text(day)}: {then} > {after}")
-    return [*lines, f"{plural(count, 'day')} changed"]
+    days = difference_lines(plan, was, plan.days)
+    return [*lines, *days, f"{plural(len(days), 'day')} changed"]
 
 
 def run_backup(options: BackupOptions, given: Given, _: Program) -> int:

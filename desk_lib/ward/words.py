@@ -2,7 +2,7 @@
 import argparse
 
 from desk_lib import polish
-from desk_lib.parsing import Commands, command, files_of, number_in, with_force, with_roster
+from desk_lib.parsing import Commands, Parser, command, files_of, number_in, today_in, with_force, with_roster
 from desk_lib.ward import commands as does
 from desk_lib.ward import options
 
@@ -21,16 +21,23 @@ REPAIR = """
 
 What changes is as little as is found, on days from today on, published ones among them. The candidates are shown side by
 side, with their numbers, and kept in the ward: 'take' makes one of them the working roster. Today is the date by the
-clock, if it is one of the ward's days, or what --from says."""
+clock, if it is one of the ward's days, or what --from says. Asks that are given are added first, as by 'ask'."""
 PUBLISH = """
 
 From then on these days stay as they are for 'improve', and 'changes', 'grid' and 'page' compare with what was published. 'repair' and
 'swap' may still change them, from today on; 'publish' again publishes that."""
 
+SERVE = """
+
+The page is for this machine alone: the desk prints a link with a key in it, and opens it in a browser. It shows the month,
+who may take a shift, the asks, runs as they go on, and the versions; each change becomes a version of the ward. Ctrl-C ends
+it: runs are stopped, and the best that they found is kept. It needs Flask and waitress ('apt-get install python3-flask
+python3-waitress'). Today is the date by the clock, or what --from says."""
+
 
 def of_ward(
     commands: Commands, name: str, run: does.Run, kind: type[options.WardOptions], summary: str, more: str = ""
-) -> argparse.ArgumentParser:
+) -> Parser:
     """A command of wards, which comes before its other words."""
     parser = command(commands, name, run, kind, summary, more, epilog="")
     parser.add_argument("ward", metavar="WARD", help="the ward's file, as ward12.ward")
@@ -66,6 +73,8 @@ def add_rosters(commands: Commands) -> None:
     """The commands on rosters."""
     summary = "looks for rosters with few changes, from today on, and shows them side by side"
     parser = of_ward(commands, "repair", does.run_repair, options.RepairOptions, summary, REPAIR)
+    parser.later = "line"
+    parser.add_argument("line", nargs="*", metavar="LINE", help="an ask, as 'absent Hanna Wed..Fri'; may be given again")
     with_today(parser)
     searches = number_in(1, polish.MOST_SEARCHES)
     parser.add_argument(
@@ -79,8 +88,11 @@ def add_rosters(commands: Commands) -> None:
     parser.add_argument("what", metavar="N|FILE", help="the number of a candidate, or a file with solutions or a table")
     with_force(parser, "take it even if it breaks hard rules")
     with_roster(parser)
-    summary = "publishes the working roster, up to its last day or an earlier one"
+    summary = "publishes the working roster, or one that becomes it, up to its last day or an earlier one"
     parser = of_ward(commands, "publish", does.run_publish, options.PublishOptions, summary, PUBLISH)
+    parser.later = "what"
+    chosen = "the number of a candidate, or a file with solutions or a table, to be taken and published at once"
+    parser.add_argument("what", nargs="*", metavar="N|FILE", help=chosen)
     parser.add_argument("--until", metavar="DAY", help="the last day that is published, as 2026-11-30")
     with_force(parser, "publish it even if it breaks hard rules")
     with_roster(parser)
@@ -90,8 +102,10 @@ def add_versions(commands: Commands) -> None:
     """The commands on versions and files."""
     kind = options.WardOptions
     of_ward(commands, "versions", does.run_versions, kind, "lists what was done, by whom and when")
-    of_ward(commands, "undo", does.run_undo, kind, "goes back by one change: asks, roster and publication are those of before")
-    of_ward(commands, "redo", does.run_redo, kind, "goes forward again by one change that was undone")
+    summary = "goes back by one change, or by several: asks, roster and publication are those of before"
+    of_moves(of_ward(commands, "undo", does.run_undo, options.MoveOptions, summary))
+    summary = "goes forward again by one change that was undone, or by several"
+    of_moves(of_ward(commands, "redo", does.run_redo, options.MoveOptions, summary))
     parser = of_ward(commands, "diff", does.run_diff, options.DiffOptions, "lists what differs between two versions")
     version = number_in(1, 999_999)
     parser.add_argument("first", type=version, metavar="A", help="the number of a version")
@@ -107,9 +121,24 @@ def add_versions(commands: Commands) -> None:
     with_roster(parser)
 
 
+def add_serve(commands: Commands) -> None:
+    """The command that shows a ward in a browser."""
+    parser = of_ward(commands, "serve", does.run_serve, options.ServeOptions, "shows a ward in a browser, to plan it there", SERVE)
+    parser.add_argument("--port", type=number_in(0, 65_535), default=0, metavar="N", help="the port; a free one if it isn't given")
+    parser.add_argument("--no-browser", action="store_true", help="print the link, and open no browser")
+    parser.add_argument("--read-only", action="store_true", help="show the ward and change nothing, as on a screen on the wall")
+    with_today(parser)
+    with_roster(parser)
+
+
 def with_today(parser: argparse.ArgumentParser) -> None:
     parser.add_argument(
-        "--from", dest="since", metavar="DAY", default="0", help="the day that is today, if it isn't that of the clock"
+        "--from",
+        dest="since",
+        type=today_in,
+        metavar="DAY",
+        default="0",
+        help="the day that is today, if it isn't that of the clock",
     )
 
 
@@ -119,4 +148,10 @@ def with_shifts(parser: argparse.ArgumentParser) -> None:
     )
     parser.add_argument(
         "--colour", action="append", metavar="COLOUR", help="the colour of a shift on pages, as Night=#203060; may be given again"
+    )
+
+
+def of_moves(parser: argparse.ArgumentParser) -> None:
+    parser.add_argument(
+        "count", nargs="?", type=number_in(1, 999), default=1, metavar="N", help="how many changes (1 if not given)"
     )
