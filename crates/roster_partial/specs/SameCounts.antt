@@ -31,8 +31,9 @@ module _ (c : Meaning) (n : ℕ) (f g : ℕ → List Offer)
   states_go boxes between after (inl none) = inl none
   states_go boxes between after (inr states) = inr (omega (arith, states, same_states boxes))
 
-  pub counts_same : (before after : ℕ) → CountsSearch c n f before after → CountsSearch c n g before after
-  counts_same before after counts = record {
+  pub counts_same : (cells before after : ℕ) → CountsSearch cells c n f before after
+      → CountsSearch cells c n g before after
+  counts_same cells before after counts = record {
     boxes = counts.boxes;
     are_reachable = record {
       start = counts.are_reachable.start;
@@ -44,7 +45,8 @@ module _ (c : Meaning) (n : ℕ) (f g : ℕ → List Offer)
     };
     between = counts.between;
     partial = record {
-      after_bounds = counts.partial.after_bounds;
+      bounds = counts.partial.bounds;
+      rows = counts.partial.rows;
       completion_bounds = record {
         sets = counts.partial.completion_bounds.sets;
         followed = counts.partial.completion_bounds.followed;
@@ -54,8 +56,8 @@ module _ (c : Meaning) (n : ℕ) (f g : ℕ → List Offer)
             counts.partial.completion_bounds.counted ∙ ap (λ m. before + counts.partial.completion_bounds.sets
             * m + counts.partial.completion_bounds.followed) same_bounds;
       };
-      from = counts.partial.from;
-      rows = counts.partial.rows;
+      few = counts.partial.few;
+      counted = counts.partial.counted;
     };
     left = omega (arith, counts.left, same_states counts.boxes);
     states = states_go counts.boxes counts.between after counts.states;

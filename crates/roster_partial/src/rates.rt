@@ -5,7 +5,7 @@ ghost use Rattle.roster_bundle.specs.Limits.{greatest_u64};
 ghost use Rattle.roster_instance.specs.Meaning.{day_count};
 ghost use Rattle.roster_offers.specs.Lists.{most_scale, offers_on};
 ghost use Rattle.roster_completion.specs.CompletionBounds.{AreSmallRates, search_extensions};
-ghost use Rattle.roster_partial.specs.Counts.{CountsSets, most_sets};
+ghost use Rattle.roster_partial.specs.Counts.{CountsSets, most_first};
 ghost use Rattle.roster_partial.specs.Rates.{AreSetAt, FitsNurse, IsTried, RunsOut, most_offers, row_extensions, trial_extensions};
 
 use crate::limited::Bounded;
@@ -115,7 +115,7 @@ pub fn set_best_bounds(
     ensures set { IfSome result
         (λ best. AreSetAt bounded.now.search best.rates completion_bounds.new) }
     ensures counted { CountsSets bounded.now.search.case.now bounded.now.search.nurse
-        (offers_on bounded.now.search.offers.now) most_sets most_sets meter.old meter.new }
+        (offers_on bounded.now.search.offers.now) most_first most_first meter.old meter.new }
     ensures most { meter.new ≤ bounded.now.last_count }
     ensures none { IsNone result →
         RunsOut bounded.now.search completion_bounds.old (bounded.now.last_count - meter.old) }
@@ -140,7 +140,7 @@ pub fn set_best_bounds(
 }
 
 /// How many extensions it takes at most to set the completion bounds and to follow a row.
-fn extensions_of_trial(bounded: &Bounded<'_>) -> u64
+pub(crate) fn extensions_of_trial(bounded: &Bounded<'_>) -> u64
     ensures extensions { result ≡ trial_extensions bounded.now.search }
     ensures within { result ≤ 2 ^ 40 }
 {
@@ -220,7 +220,7 @@ fn trials_from_same(case: &Case) -> usize
 }
 
 /// The rates, each at most what one assignment or worked weekend too many costs at a scale.
-fn within_range(rates: Rates, scale: u32) -> Rates
+pub(crate) fn within_range(rates: Rates, scale: u32) -> Rates
     requires { scale ≤ most_scale }
     ensures { AreSmallRates scale result }
 {
@@ -232,16 +232,16 @@ fn within_range(rates: Rates, scale: u32) -> Rates
 
 /// The best rates that were tried.
 #[derive(Clone, Copy)]
-struct Tried {
-    rates: Rates,
+pub(crate) struct Tried {
+    pub(crate) rates: Rates,
     /// The start's completion bound at these rates.
-    low: u32,
+    pub(crate) low: u32,
     /// The least cost of all rows that were followed, `u32::MAX` if there is none.
-    high: u32,
+    pub(crate) high: u32,
     /// The rates at which completion bounds were set last.
-    set: Rates,
+    pub(crate) set: Rates,
     /// The row that follows the completion bounds at the best rates, if there is one.
-    followed: Option<Followed>,
+    pub(crate) followed: Option<Followed>,
 }
 
 /// Judges completion bounds that were just set, as the first trial.
@@ -319,8 +319,9 @@ fn try_rates(
     tried
 }
 
-/// Tries one more pair of rates. It becomes the best one if the start's completion bound is higher at it.
-fn try_more(
+/// Tries one more pair of rates, unless it is the best one. It becomes the best one if the start's completion
+/// bound is higher at it.
+pub(crate) fn try_more(
     bounded: &Bounded<'_>,
     tried: Tried,
     rates: Rates,
@@ -335,6 +336,9 @@ fn try_more(
         (offers_on bounded.now.search.offers.now) 1 1 meter.old meter.new }
     ensures few { meter.new ≤ meter.old + trial_extensions bounded.now.search }
 {
+    if are_same(rates, tried.rates) {
+        return tried;
+    }
     set_completion_bounds(&bounded.search, rates, completion_bounds, meter);
     let other = trial(bounded, rates, completion_bounds, meter);
     let high = min(tried.high, other.high);
@@ -383,7 +387,7 @@ fn rate_after(rate: u32, by: u32, most: u32, count: u32, greatest: u32) -> u32
 }
 
 /// Whether two pairs of rates are the same.
-fn are_same(rates: Rates, others: Rates) -> bool
+pub(crate) fn are_same(rates: Rates, others: Rates) -> bool
     ensures { result ≡ true → rates ≡ others }
 {
     rates.day == others.day && rates.weekend == others.weekend
@@ -394,7 +398,7 @@ fn are_same(rates: Rates, others: Rates) -> bool
 /// The row that follows completion bounds: its cost, and its assignments and worked weekends, those before
 /// its first day included.
 #[derive(Clone, Copy)]
-struct Followed {
+pub(crate) struct Followed {
     cost: u32,
     assignments: u32,
     weekends: u32,

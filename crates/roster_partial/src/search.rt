@@ -1,22 +1,24 @@
 //! The search over a table of offers: by partial rows first, then by the label tables.
 
-ghost use Rattle.std.specs.Prelude.{◌≡◌, ◌+◌, ◌-◌, ◌*◌, ◌/◌, ◌<◌, ◌≤◌, ℕ, IfSome, IsSome, None, length, min, take};
+ghost use Rattle.std.specs.Prelude.{◌≡◌, ◌+◌, ◌*◌, ◌/◌, ◌<◌, ◌≤◌, ℕ, IfSome, IsSome, None, length, take};
 ghost use Rattle.roster_bundle.specs.Limits.{greatest_u64};
 ghost use Rattle.roster_laws.specs.Greatest.{extension_count};
 ghost use Rattle.roster_offers.specs.Listed.{KeepsList};
 ghost use Rattle.roster_offers.specs.Lists.{IsFound, no_row};
 ghost use Rattle.roster_tables.specs.Search.{HasTables};
-ghost use Rattle.roster_partial.specs.Counts.{CountsPartial, CountsSearch};
+ghost use Rattle.roster_partial.specs.Counts.{CountsPartial, CountsSearch, ladder_limits, rows_kept};
 ghost use Rattle.roster_partial.specs.Rates.{AreSetAt, most_offers};
-ghost use Rattle.roster_partial.specs.Rows.{most_rows, within};
+ghost use Rattle.roster_partial.specs.Rows.{within};
 ghost use Rattle.roster_partial.specs.Searches.{IsFull, best_in, days_in, offered};
 ghost use Rattle.roster_partial.specs.declared.all_days.Within.TheVariants.{Dearer, Found, Full};
 
 use crate::all_days::{Within, row_within};
+use crate::closer::{pays, set_closer_bounds};
 use crate::guesses::Guesses;
 use crate::limited::{Bounded, LimitedSearch};
+use crate::limits::Limits;
 use crate::listing::list_rows;
-use crate::rates::{Guess, set_best_bounds};
+use crate::rates::set_best_bounds;
 use crate::rows::{MOST_ROWS, REMAINDERS, ROW_CELLS, RecentRows};
 use roster_completion::{CompletionBounds, Rates, completion_cells};
 use roster_instance::Choice;
@@ -24,7 +26,7 @@ use roster_offers::{ListLimits, RowList, SearchInput, most_search_extensions};
 use roster_state::Meter;
 use roster_tables::{DayBoxes, NO_ROW, Tables, extensions_at_most, find_boxes};
 
-/// How many limits are tried at most, each higher than the one before.
+/// How many limits are tried at most with the same completion bounds.
 const MOST_LIMITS: usize = 24;
 
 /// What searches keep besides the tables and boxes, some 30 kB for each case: which states have a partial
@@ -89,8 +91,8 @@ pub fn search_row(
     // What it takes.
     ensures each_day { meter.old + days_in search.now ≤ meter.new }
     ensures counted { meter.new ≤ meter.old + extension_count search.now.case.now search.now.nurse }
-    ensures are_reachable { CountsSearch search.now.case.now search.now.nurse (offered search.now)
-        meter.old meter.new }
+    ensures are_reachable { CountsSearch (tables.old.labels / 2) search.now.case.now
+        search.now.nurse (offered search.now) meter.old meter.new }
     ensures tables { tables.new ≡ tables.old }
 {
     find_boxes(search, boxes);
@@ -125,8 +127,8 @@ fn search_in_tables(
     ensures below { IfSome result (λ cost. cost < no_row) }
     ensures each_day { IfSome result (λ cost. meter.old + days_in bounded.now.search
         ≤ meter.new) }
-    ensures counted { CountsPartial bounded.now.search.case.now bounded.now.search.nurse
-        (offered bounded.now.search) meter.old meter.new }
+    ensures counted { CountsPartial (tables.old.labels / 2) bounded.now.search.case.now
+        bounded.now.search.nurse (offered bounded.now.search) meter.old meter.new }
     ensures most { meter.new ≤ bounded.now.last_count }
     ensures length { length row.new ≡ length row.old }
     ensures tables { tables.new ≡ tables.old }
@@ -161,9 +163,10 @@ pub fn list_in_tables(
     )
 }
 
-/// Searches the best row by partial rows, within higher and higher limits: from the lower bound of its cost
-/// up to the upper bound. Returns `None` if capacity or extensions run out, or if no limit that was tried is
-/// high enough.
+/// Searches the best row by partial rows, within one limit after another: from the lower bound of its cost
+/// up to the upper bound. If there are too many of them, and it pays, it sets closer completion bounds, and
+/// then lowers limits too. Returns `None` if capacity or extensions run out nevertheless, or if no limit that
+/// was tried is high enough.
 fn search_partial(
     bounded: &Bounded<'_>,
     hints: &mut Hints,
@@ -180,68 +183,86 @@ fn search_partial(
     ensures below { IfSome result (λ cost. cost < no_row) }
     ensures each_day { IfSome result (λ cost. meter.old + days_in bounded.now.search
         ≤ meter.new) }
-    ensures counted { CountsPartial bounded.now.search.case.now bounded.now.search.nurse
-        (offered bounded.now.search) meter.old meter.new }
+    ensures counted { CountsPartial (length rows.old) bounded.now.search.case.now
+        bounded.now.search.nurse (offered bounded.now.search) meter.old meter.new }
     ensures most { meter.new ≤ bounded.now.last_count }
     ensures length { length row.new ≡ length row.old }
 {
-    let scale = bounded.search.scale;
     let guess = hints.guesses.of(&bounded.search);
     let best = set_best_bounds(bounded, guess, completion_bounds, meter)?;
-    let mut gaps = gaps_after(guess, scale);
-    let mut limit = best.low.saturating_add(gaps.first);
+    let limits = Limits::above(&best, guess, bounded.search.scale);
+    let ladder = Ladder {
+        completion_bounds,
+        rates: best.rates,
+        limits,
+    };
+    if let Some(cost) = try_limits(bounded, &ladder, rows, &mut hints.recent, row, meter) {
+        hints.guesses.learn(&bounded.search, &best, cost);
+        return Some(cost);
+    }
+    if !pays(bounded, guess) {
+        return None;
+    }
+    let closer = set_closer_bounds(bounded, best, completion_bounds, meter);
+    let ladder = Ladder {
+        completion_bounds,
+        rates: closer.rates,
+        limits: limits.again(&closer),
+    };
+    let cost = try_limits(bounded, &ladder, rows, &mut hints.recent, row, meter)?;
+    hints.guesses.learn(&bounded.search, &closer, cost);
+    Some(cost)
+}
+
+/// The limits that are tried with completion bounds, and the rates of these.
+#[derive(Clone, Copy)]
+struct Ladder<'a> {
+    completion_bounds: &'a [u32],
+    rates: Rates,
+    limits: Limits,
+}
+
+/// Searches the best row by the partial rows within one limit after another. Returns `None` if no limit that
+/// was tried is high enough, or if too many partial rows are within one, and it can't be lowered.
+fn try_limits(
+    bounded: &Bounded<'_>,
+    ladder: &Ladder<'_>,
+    rows: &mut [u32],
+    recent: &mut RecentRows,
+    row: &mut [Choice],
+    meter: &mut Meter,
+) -> Option<u32>
+    requires set { AreSetAt bounded.now.search ladder.now.rates ladder.now.completion_bounds.now }
+    requires cells { 0 < length rows.old }
+    requires row_capacity { days_in bounded.now.search ≤ length row.old }
+    requires room { meter.old ≤ bounded.now.last_count }
+    ensures best { IfSome result (λ cost. IsFound (best_in bounded.now.search) cost
+        (take (days_in bounded.now.search) row.new)) }
+    ensures below { IfSome result (λ cost. cost < no_row) }
+    ensures each_day { IfSome result (λ cost. meter.old + days_in bounded.now.search
+        ≤ meter.new) }
+    ensures counted { (meter.old ≤ meter.new) × (meter.new ≤ bounded.now.last_count) }
+    ensures brief { meter.new ≤ meter.old
+        + ladder_limits * (most_offers * rows_kept (length rows.old)) }
+    ensures length { length row.new ≡ length row.old }
+{
+    let mut limits = ladder.limits;
     'limits: for _tried in 0..MOST_LIMITS {
         let attempt = Attempt {
-            completion_bounds,
-            rates: best.rates,
-            limit: limit.min(best.high).min(NO_ROW - 1),
+            completion_bounds: ladder.completion_bounds,
+            rates: ladder.rates,
+            limit: limits.next.min(NO_ROW - 1),
         };
-        match search_within(bounded, &attempt, rows, &mut hints.recent, row, meter) {
-            Within::Found(cost) => {
-                hints.guesses.learn(&bounded.search, &best, cost);
-                return Some(cost);
-            }
-            Within::Full => return None,
-            Within::Dearer => {}
+        let goes_on = match search_within(bounded, &attempt, rows, recent, row, meter) {
+            Within::Found(cost) => return Some(cost),
+            Within::Full => limits.lower(),
+            Within::Dearer => limits.raise(),
+        };
+        if !goes_on {
+            return None;
         }
-        limit = limit.saturating_add(gaps.more);
-        gaps.more = gaps
-            .more
-            .saturating_add(gaps.more / 2)
-            .saturating_add(gaps.plus);
     }
     None
-}
-
-/// By how many points the first limit is above the lower bound if the nurse wasn't searched yet. It is less
-/// than the smallest difference between the true penalties of two rows.
-const FIRST_GAP: u32 = 4;
-
-/// Which limits are tried, in parts of a point: by how much the first is above the lower bound of the best
-/// row's cost, and the second above the first. Each further one is half as much more again, and `plus`.
-#[derive(Clone, Copy)]
-struct Gaps {
-    first: u32,
-    more: u32,
-    plus: u32,
-}
-
-/// Which limits are tried after an earlier search. By dual prices the best rows of a nurse come one close
-/// above the other from search to search, and a limit a little too high lets in many partial rows, so the
-/// gap of her last one is taken nearly as it was, and limits rise slowly.
-fn gaps_after(guess: Option<Guess>, scale: u32) -> Gaps {
-    match guess {
-        Some(guess) if guess.is_own => Gaps {
-            first: guess.gap.saturating_add(scale / 2),
-            more: scale.saturating_mul(2),
-            plus: 0,
-        },
-        _ => Gaps {
-            first: scale.saturating_mul(FIRST_GAP),
-            more: scale.saturating_mul(10),
-            plus: scale.saturating_mul(5),
-        },
-    }
 }
 
 /// A limit that is tried, in the parts of a point of the search's scale, with the completion bounds and their
@@ -270,14 +291,14 @@ fn search_within(
     ensures best { (cost : ℕ) → result ≡ Found cost → IsFound (best_in bounded.now.search) cost
         (take (days_in bounded.now.search) row.new) }
     ensures below { (cost : ℕ) → result ≡ Found cost → cost < no_row }
-    ensures full { result ≡ Full → IsFull (min ((length rows.old - 1) / 4) most_rows)
-        bounded.now.last_count rows.new meter.new }
+    ensures full { result ≡ Full → IsFull (rows_kept (length rows.old)) bounded.now.last_count
+        rows.new meter.new }
     ensures dearer { result ≡ Dearer
         → within attempt.now.limit (best_in bounded.now.search) ≡ None }
     ensures each_day { (cost : ℕ) → result ≡ Found cost →
         meter.old + days_in bounded.now.search ≤ meter.new }
     ensures counted { (meter.old ≤ meter.new) × (meter.new ≤ bounded.now.last_count) }
-    ensures brief { meter.new ≤ meter.old + most_offers * most_rows }
+    ensures brief { meter.new ≤ meter.old + most_offers * rows_kept (length rows.old) }
     ensures length { length row.new ≡ length row.old }
 {
     let SearchInput {

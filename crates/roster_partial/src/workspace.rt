@@ -37,9 +37,9 @@ impl SearchesRows for RowSearcher {
 
     ghost capacity = { λ t. t.tables };
 
-    ghost IsCounted = { λ c n offers before after. CountsSearch c n offers before after };
+    ghost IsCounted = { λ cells c n offers before after. CountsSearch cells c n offers before after };
 
-    ghost counted_same = { counts_same };
+    ghost counted_same = { λ cells c n f g same. counts_same c n f g same cells };
 
     fn for_states(alloc: Global, states: usize, days: usize) -> Result<RowSearcher, AllocError> {
         Ok(RowSearcher {

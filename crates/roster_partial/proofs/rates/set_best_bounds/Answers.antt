@@ -1,7 +1,7 @@
 use Rattle.std.proofs.Common.{ℕ, List, arith, subst, sym}
 use Rattle.roster_offers.specs.Lists.{offers_on}
 use Rattle.roster_completion.specs.declared.rates.Rates.{Rates}
-use Rattle.roster_partial.specs.Counts.{CountsSets, most_sets}
+use Rattle.roster_partial.specs.Counts.{CountsSets, most_first}
 use Rattle.roster_partial.specs.Rates.{AreSetAt}
 use Rattle.roster_partial.proofs.CountLaws.{no_set, one_row, one_set, sets_more, sets_within}
 use Rattle.roster_partial.proofs.rates.set_best_bounds.Goals as goal
@@ -44,7 +44,7 @@ returns-clause-counted c =
       | then-not-are_same w ↦
           let again = w.set_completion_bounds-then-not-are_same.new.meter in
           let all = sets_more k n offers more (one_set k n offers tried again (w.set_completion_bounds-then-not-are_same.ensures.counted (w.set_completion_bounds-then-not-are_same.ensures.capacity.1 c.try_rates-last.ensures.tried.set.inside))) in
-          subst (λ (m : ℕ). CountsSets k n offers most_sets most_sets start m) (sym w.meter-is) (sets_within k n offers (omega (arith, c.plan_by-plan.ensures.trials)) (omega (arith, c.plan_by-plan.ensures.trials)) all)
+          subst (λ (m : ℕ). CountsSets k n offers most_first most_first start m) (sym w.meter-is) (sets_within k n offers (omega (arith, c.plan_by-plan.ensures.trials)) (omega (arith, c.plan_by-plan.ensures.trials)) all)
       | else-not-are_same w ↦
-          subst (λ (m : ℕ). CountsSets k n offers most_sets most_sets start m) (sym w.meter-is) (sets_within k n offers (omega (arith, c.plan_by-plan.ensures.trials)) (omega (arith, c.plan_by-plan.ensures.trials)) more)
+          subst (λ (m : ℕ). CountsSets k n offers most_first most_first start m) (sym w.meter-is) (sets_within k n offers (omega (arith, c.plan_by-plan.ensures.trials)) (omega (arith, c.plan_by-plan.ensures.trials)) more)
     ]

@@ -1,7 +1,7 @@
-use Rattle.std.proofs.Common.{◌≡◌, true}
+use Rattle.std.proofs.Common.{◌≡◌, arith, true}
 use Rattle.roster_offers.specs.Lists.{offers_on}
 use Rattle.roster_partial.specs.Counts.{CountsSets}
-use Rattle.roster_partial.proofs.CountLaws.{one_row, one_set, sets_more}
+use Rattle.roster_partial.proofs.CountLaws.{no_set, one_row, one_set, sets_more, sets_within}
 use Rattle.roster_partial.proofs.rates.try_more.Goals as goal
 use Rattle.roster_partial.proofs.rates.try_more.Goals.{After-trial-other}
 
@@ -19,3 +19,9 @@ returns-then-other-tried-clause-counted c = counted (goal.at.returns-then-other-
 
 pub returns-clause-counted : goal.returns-clause-counted
 returns-clause-counted c = counted (goal.at.returns-clause-counted c).After-trial-other
+
+pub returns-then-are_same-clause-counted : goal.returns-then-are_same-clause-counted
+returns-then-are_same-clause-counted c =
+    let search = c.args.bounded.now.search in
+    let offers = offers_on search.offers.now in
+    sets_within search.case.now search.nurse offers (omega arith) (omega arith) (no_set search.case.now search.nurse offers c.args.meter.now)

@@ -1,4 +1,4 @@
-use Rattle.std.proofs.Common.{arith, inl, inr, refl, subst, sym, ℕ}
+use Rattle.std.proofs.Common.{◌/◌, arith, inl, inr, refl, subst, sym, ℕ}
 use Rattle.roster_offers.specs.Lists.{offers_on}
 use Rattle.roster_tables.specs.Search.{reachable_extensions}
 use Rattle.roster_partial.specs.Counts.{CountsPartial}
@@ -32,13 +32,14 @@ returns-clause-are_reachable c =
     let k = search.case.now in
     let n = search.nurse in
     let offers = offers_on search.offers.now in
+    let cells = c.args.tables.now.labels / 2 in
     record {
       boxes = c.find_boxes.new.boxes.days;
       are_reachable = c.find_boxes.ensures.are_reachable;
       between = c.if-begins.meter;
       partial = elim c.if-begins.branch [
-        | then-begins+in_default w ↦ subst (λ (m : ℕ). CountsPartial k n offers c.args.meter.now m) (sym w.meter-is) w.search_in_tables.ensures.counted
-        | else-begins w ↦ subst (λ (m : ℕ). CountsPartial k n offers c.args.meter.now m) (sym w.meter-is) (no_partial k n offers c.args.meter.now)
+        | then-begins+in_default w ↦ subst (λ (m : ℕ). CountsPartial cells k n offers c.args.meter.now m) (sym w.meter-is) w.search_in_tables.ensures.counted
+        | else-begins w ↦ subst (λ (m : ℕ). CountsPartial cells k n offers c.args.meter.now m) (sym w.meter-is) (no_partial k n offers cells c.args.meter.now)
       ];
       left = elim c.if-begins.branch [
         | then-begins+in_default w ↦ omega (arith, w.meter-is, w.search_in_tables.ensures.most, w.count.ensures, w.most_search_extensions.ensures.count, c.extensions_at_most-extensions.ensures.all, c.extensions_at_most-extensions.ensures.within)
