@@ -1,6 +1,6 @@
 -- What a bundle means, and how a command ends.
 use Rattle.std.proofs.Common.{◌≡◌, ◌∙◌, ◌==◌, [], ℕ, if◌then◌else◌, Err, List, Option, None, Some, Result, Ok, ap, length, refl, subst, sym, true≢false, is_some, false, true, Bool}
-use Rattle.std.specs.Prelude.{IfErr, OnOk}
+use Rattle.std.specs.Prelude.{IfErr, OnErr, OnOk}
 use Rattle.std.proofs.lemmas.List.{length-map}
 use Rattle.roster_text.specs.Grammar.{Spells}
 use Rattle.roster_text.specs.Io.{Writes}
@@ -45,6 +45,16 @@ fits_kept c rows keep r fits = go (keep == 0)
     go false = fits
 
 -- ---- a command for an instance
+
+-- what holds anyway holds if there is no fault
+pub OnOk-always : {X E : Type 0} (r : Result X E) (P : Type 0) → P → OnOk r P
+OnOk-always (Ok x) P p = p
+OnOk-always (Err e) P p = tt
+
+-- and if there is one
+pub OnErr-always : {X E : Type 0} (r : Result X E) (P : Type 0) → P → OnErr r P
+OnErr-always (Ok x) P p = tt
+OnErr-always (Err e) P p = p
 
 -- a command that is allowed, and writes its text last
 pub written_ends : {W X : Type 0} (output : Output W) (p : Report) (c : Meaning) (result : Result X Fault) → IsAllowed p

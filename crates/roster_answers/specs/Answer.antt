@@ -17,7 +17,8 @@ use Rattle.roster_rules.specs.AllowedRows.{best_row}
 use Rattle.roster_instance.specs.Bundles.{meaning_of, rows_of}
 use Rattle.roster_instance.specs.Faults.{first_fault}
 use Rattle.roster_rules.specs.HardRules.{hard_faults}
-use Rattle.roster_instance.specs.Meaning.{Meaning, day_count, keeping, nurse_name, shift_at, skill_at}
+use Rattle.roster_instance.specs.Meaning.{Meaning, day_count, keeping, nurse_name, shift_at, skill_at, week_count}
+use Rattle.roster_instance.specs.Limits.{most_weeks}
 use Rattle.roster_instance.specs.Names.{find_name}
 use Rattle.roster_rules.specs.Penalties.{costs_of, penalty}
 use Rattle.roster_instance.specs.Refusals.{all_faults}
@@ -31,6 +32,7 @@ use Rattle.roster_rules.specs.Improver.{log_of, run}
 use Rattle.roster_rounds.specs.RunLogs.{text_of}
 use Rattle.roster_bound.specs.declared.effort.Effort.{Effort}
 use Rattle.roster_bound.specs.BoundLogs.{BoundLine, IsBoundLog, bound_log_text, last_line, no_line}
+use Rattle.roster_bound.specs.Rounds.{AreLinesOfRounds}
 use Rattle.roster_prices.specs.LowerBounds.{IsLowerBound}
 use Rattle.roster_who.specs.Who.{AreInOrder, missed as missed_of, takers, without_absent_work}
 use Rattle.roster_who.specs.declared.asked.Asked.{Asked}
@@ -233,11 +235,14 @@ bound_report lines c r =
     { is_held = true; broken = hard_faults c r; log = Some (bound_log_text c r lines) }
 
 -- The report is of lower bounds on all rosters that keep the hard rules and the frozen days. The bound of the
--- first round is defined, and the last bound is no less; how great later ones become isn't stated.
+-- first round is defined, and the last bound is no less; how great later ones become isn't stated. The lines
+-- of a case within the limits are those of its rounds, of which none is left out without a reason, and of
+-- branchings.
 pub record IsBoundReport (effort : Effort) (from : ℕ) (c : Meaning) (r : Rows) (p : Report) : Type 0 where
   pub lines : List BoundLine
   pub is_log : IsBoundLog c from r effort lines
   pub below : IsLowerBound c from r (last_line no_line lines).bound
+  pub rounds : week_count c ≤ most_weeks → AreLinesOfRounds c from r effort.rounds lines
   pub is : p ≡ bound_report lines c r
 
 -- the names of days: each is its week and its weekday, as in 1:Wed

@@ -3,9 +3,9 @@
 ghost use Rattle.std.specs.Prelude.{◌≡◌, ◌++◌, codes, ◌<◌, ◌≤◌, true, OnErr, OnOk};
 ghost use Rattle.roster_bundle.specs.Limits.{greatest_u64};
 ghost use Rattle.roster_text.specs.Io.{Stops, Writes};
-ghost use Rattle.roster_instance.specs.Meaning.{nurse_count};
+ghost use Rattle.roster_instance.specs.Meaning.{day_count, nurse_count};
 ghost use Rattle.roster_rules.specs.Improver.{line, start_word};
-ghost use Rattle.roster_answers.specs.Answer.{Ends, LeavesLog, best_report, log_with_best, outcome_of, output_of, with_best};
+ghost use Rattle.roster_answers.specs.Answer.{Ends, LeavesLog, best_report, log_with_best, number_of, outcome_of, output_of, with_best};
 ghost use Rattle.roster_laws.specs.Greatest.{extension_count};
 ghost use Rattle.roster_offers.specs.Workspaces.{fits_space};
 
@@ -41,34 +41,51 @@ pub fn report_best<'a, T: SearchesRows, Out: Write, Log: Write>(
     ensures logged { LeavesLog (output_of Log.contents log.old log.new)
         (best_report name.now from instance.case instance.roster).log (outcome_of result) }
 {
+    let mut meter = Meter::new(&mut instance.case);
+    report_best_row::<T, Out, Log>(alloc, name, from, instance, &mut meter, output, log)
+}
+
+/// The same, with a meter that has counted nothing yet. It makes one search.
+fn report_best_row<'a, T: SearchesRows, Out: Write, Log: Write>(
+    alloc: Global,
+    name: &'a [u8],
+    from: u16,
+    instance: Instance,
+    meter: &mut Meter,
+    output: &mut Watch<Out>,
+    log: &mut Watch<Log>,
+) -> Result<(), Fault<'a>>
+    requires none { meter.old ≡ 0 }
+    ensures ends { Ends (output_of Out.contents output.old output.new)
+        (best_report name.now from instance.case instance.roster) instance.case
+        (outcome_of result) }
+    ensures logged { LeavesLog (output_of Log.contents log.old log.new)
+        (best_report name.now from instance.case instance.roster).log (outcome_of result) }
+
+    // One search, or none if it is refused before.
+    ensures each_day { OnOk result (day_count instance.case ≤ meter.new) }
+    ensures counted { meter.new ≤ extension_count instance.case
+        (number_of instance.case name.now) }
+{
     let Some(nurse) = instance.case.find_nurse(name) else {
         if let Some(fault) = first_hard(&instance.case, &instance.roster) {
             return Err(Fault::Hard(fault, instance.into_case()));
         }
         return Err(Fault::Unknown(Thing::Nurse, name));
     };
-    let mut meter = Meter::new(&mut instance.case);
     let mut held = hold(alloc, instance)?;
     let Ok(mut workspace) = Workspace::<T>::for_case(alloc, held.case()) else {
         return Err(Fault::Workspace);
     };
     search_has_room(held.case(), nurse);
-    match put_best_row(
-        &mut held,
-        name,
-        nurse,
-        from,
-        &mut workspace,
-        &mut meter,
-        log,
-    ) {
+    match put_best_row(&mut held, name, nurse, from, &mut workspace, meter, log) {
         Ok(()) => show_weeks(held.case(), held.roster(), output),
         Err(_) => Err(Fault::Log),
     }
 }
 
-/// Puts the best row of a nurse from a week on in. It logs what the roster costs before the search begins,
-/// and what it costs with the row after the search. The fault is the log's.
+/// Puts the best row of a nurse from a week on in, by one search. It logs what the roster costs before the
+/// search begins, and what it costs with the row after the search. The fault is the log's.
 fn put_best_row<T: SearchesRows, Log: Write>(
     held: &mut Held,
     name: &[u8],
@@ -88,6 +105,8 @@ fn put_best_row<T: SearchesRows, Log: Write>(
         (log_with_best held.old.case from held.old.roster nurse name.now)) }
     ensures err { OnErr result (Stops Log.contents log.old log.new
         (log_with_best held.old.case from held.old.roster nurse name.now)) }
+    ensures each_day { OnOk result (day_count held.old.case ≤ meter.new) }
+    ensures counted { meter.new ≤ extension_count held.old.case nurse }
 {
     write_start(held.case(), held.total(), log)?;
     let best = best_row(held, nurse, from, workspace, meter);

@@ -1,9 +1,10 @@
 //! The command `bound`: a lower bound on what any roster costs.
 
-ghost use Rattle.std.specs.Prelude.{◌≤◌};
+ghost use Rattle.std.specs.Prelude.{◌≡◌, ◌≤◌, OnOk};
 ghost use Rattle.roster_bundle.specs.Limits.{greatest_u64};
 ghost use Rattle.roster_laws.specs.Greatest.{extensions_in};
 ghost use Rattle.roster_bound.specs.BoundLogs.{rounds_of};
+ghost use Rattle.roster_bound.specs.Rounds.{AreSearched};
 ghost use Rattle.roster_answers.specs.Answer.{IsBoundFor, Reports, outcome_of, output_of};
 
 use crate::fault::Fault;
@@ -35,12 +36,34 @@ pub fn report_bound<'a, T: SearchesRows, Out: Write, Log: Write>(
         (IsBoundFor effort from instance) instance.case (outcome_of result) }
 {
     let mut meter = Meter::new(&mut instance.case);
+    report_raised_bound::<T, Out, Log>(alloc, effort, from, instance, &mut meter, output, log)
+}
+
+/// The same, with a meter that has counted nothing yet.
+fn report_raised_bound<'a, T: SearchesRows, Out: Write, Log: Write>(
+    alloc: Global,
+    effort: Effort,
+    from: u16,
+    instance: Instance,
+    meter: &mut Meter,
+    output: &mut Watch<Out>,
+    log: &mut Watch<Log>,
+) -> Result<(), Fault<'a>>
+    requires none { meter.old ≡ 0 }
+    ensures reports { Reports (output_of Out.contents output.old output.new)
+        (output_of Log.contents log.old log.new)
+        (IsBoundFor effort from instance) instance.case (outcome_of result) }
+
+    // The roster is optimal, or at least thirty rounds were searched, or all that were asked for.
+    ensures searched { OnOk result (AreSearched instance.case from instance.roster effort.rounds
+        meter.old meter.new) }
+{
     let held = hold(alloc, instance)?;
     let Ok(mut space) = BoundSpace::<T>::for_case(alloc, held.case(), effort.nodes) else {
         return Err(Fault::Workspace);
     };
     effort_has_capacity(held.case(), effort);
-    match raise_bound(&held, effort, from, &mut space, &mut meter, log) {
+    match raise_bound(&held, effort, from, &mut space, meter, log) {
         Ok(bound) => Ok(write_bound(output, held.total(), bound)?),
         Err(LogFault::LogFailed { .. }) => Err(Fault::Log),
     }

@@ -4,7 +4,7 @@ ghost use Rattle.std.specs.Prelude.{◌≡◌, ◌+◌, ◌<◌, ◌≤◌, true
 ghost use Rattle.roster_bundle.specs.Limits.{greatest_u64};
 ghost use Rattle.roster_instance.specs.Meaning.{day_count, nurse_count};
 ghost use Rattle.roster_rules.specs.AllowedRows.{IsBestRow, penalty_with, row_keeps};
-ghost use Rattle.roster_laws.specs.Greatest.{extension_count};
+ghost use Rattle.roster_laws.specs.Greatest.{extension_count, greatest_state_count};
 ghost use Rattle.roster_offers.specs.Offers.{shift_offers};
 ghost use Rattle.roster_offers.specs.Workspaces.{SameCapacity, fits_space};
 ghost use Rattle.roster_partial.specs.Counts.{CountsSearch};
@@ -43,8 +43,8 @@ pub fn best_row(
     // What it takes.
     ensures each_day { meter.old + day_count held.now.case ≤ meter.new }
     ensures counted { meter.new ≤ meter.old + extension_count held.now.case nurse }
-    ensures are_reachable { CountsSearch held.now.case nurse (shift_offers held.now.case from
-        held.now.roster nurse) meter.old meter.new }
+    ensures are_reachable { CountsSearch (greatest_state_count held.now.case) held.now.case nurse
+        (shift_offers held.now.case from held.now.roster nurse) meter.old meter.new }
     ensures same_capacity { SameCapacity workspace.old workspace.new }
     ensures fits { fits_space held.now.case workspace.new ≡ true }
 {

@@ -1,11 +1,10 @@
 -- A run that raises a lower bound: the lines so far are sent.
-use Rattle.std.proofs.Common.{All, ◌≡◌, ◌∙◌, ◌+◌, ◌*◌, ◌<◌, ◌≤◌, ◌⊎◌, ℕ, zero, suc, Bool, true, false, List, [], ◌∷◌, ◌++◌, Option, ap, append_assoc, append-nil, arith, flat_map, if◌then◌else◌, inl, inr, length, refl, subst, sym, zero-add}
+use Rattle.std.proofs.Common.{All, ◌≡◌, ◌∙◌, ◌+◌, ◌*◌, ◌<◌, ◌≤◌, ◌⊎◌, ℕ, Bool, true, false, List, [], ◌∷◌, ◌++◌, Option, ap, append_assoc, append-nil, arith, flat_map, if◌then◌else◌, inl, inr, refl, subst, sym}
 use Rattle.std.proofs.lemmas.Bool.{cases_lt}
 use Rattle.std.proofs.lemmas.List.Concat.{flat_map-append}
-use Rattle.std.proofs.lemmas.List.Elements.{All-append, All-cons, All-nil, All-weaker}
-use Rattle.roster_text.specs.declared.fault.WriteFault.{WriteFault}
-use Rattle.roster_text.specs.Io.{BreaksIn, Sends, StopsAt, Watched, saturated, sent_of}
-use Rattle.roster_text.proofs.Texts.{Sends-append, StopsAt-after, StopsAt-append}
+use Rattle.std.proofs.lemmas.List.Elements.{All-append, All-cons, All-head, All-nil, All-tail, All-weaker}
+use Rattle.roster_text.specs.Io.{Sends, Watched}
+use Rattle.roster_text.proofs.Texts.{Sends-append}
 use Rattle.roster_instance.specs.Meaning.{Meaning}
 use Rattle.roster_instance.specs.Rosters.{Rows, fits_case}
 use Rattle.roster_rules.specs.HardRules.{keeps_hard}
@@ -13,11 +12,9 @@ use Rattle.roster_rules.specs.Penalties.{penalty}
 use Rattle.roster_laws.proofs.Frozen.{stays_self}
 use Rattle.roster_rules.specs.Weights.{staffing_weight}
 use Rattle.roster_rules.specs.Improver.{line, start_word}
-use Rattle.roster_reports.specs.declared.log_fault.LogFault.{LogFault}
-use Rattle.roster_reports.specs.declared.log_fault.LogFault.TheVariants.{LogFailed}
 use Rattle.roster_bound.specs.declared.effort.Effort.{Effort}
-use Rattle.roster_bound.specs.declared.effort.Reached.{Reached}
-use Rattle.roster_bound.specs.BoundLogs.{BoundLine, BoundLogStops, HasReached, IsBoundLog, IsRoundBound, RaisesBound, Rises, bound_line, bound_log_text, last_line, no_line, rounds_alone}
+use Rattle.roster_bound.specs.BoundLogs.{BoundLine, IsBoundLog, IsRoundBound, Rises, bound_line, bound_log_text, last_line, no_line, rounds_alone}
+use Rattle.roster_bound.specs.Branching.{IsNodesBound}
 use Rattle.roster_slots.specs.Slots.{AreDualPrices, SlotPrices, asks_for_nurses, most_dual_price}
 use Rattle.roster_prices.specs.LowerBounds.{IsLowerBound, bound_by, first_bound, first_dual_prices}
 use Rattle.roster_bound.proofs.Duality.{no_roster_below}
@@ -28,9 +25,23 @@ pub last_is : (before : BoundLine) (xs : List BoundLine) (x : BoundLine) → las
 last_is before [] x = refl
 last_is before (y ∷ xs) x = last_is y xs x
 
-rises_more : (before : BoundLine) (xs : List BoundLine) (x : BoundLine) → Rises before xs → (last_line before xs).round < x.round → (last_line before xs).bound < x.bound → Rises before (xs ++ x ∷ [])
+pub rises_more : (before : BoundLine) (xs : List BoundLine) (x : BoundLine) → Rises before xs → (last_line before xs).round < x.round → (last_line before xs).bound < x.bound → Rises before (xs ++ x ∷ [])
 rises_more before [] x rises later more = (later, more, tt)
 rises_more before (y ∷ xs) x rises later more = (rises.0, rises.1, rises_more y xs x rises.2 later more)
+
+-- no line is of a later round than the last
+pub last_later : (before : BoundLine) (xs : List BoundLine) → Rises before xs → before.round ≤ (last_line before xs).round
+last_later before [] rises = omega arith
+last_later before (x ∷ xs) rises = omega (arith, rises.0, last_later x xs rises.2)
+
+none_later : (before : BoundLine) (xs : List BoundLine) → Rises before xs → All (λ x. x.round ≤ (last_line before xs).round) xs
+none_later before [] rises = All-nil (λ x. x.round ≤ before.round)
+none_later before (x ∷ xs) rises = All-cons (λ (y : BoundLine). y.round ≤ (last_line x xs).round) x xs (last_later x xs rises.2) (none_later x xs rises.2)
+
+-- what holds of the line before some lines, and of each of them, holds of the last
+pub last_holds : (P : BoundLine → Type 0) (before : BoundLine) (xs : List BoundLine) → P before → All P xs → P (last_line before xs)
+last_holds P before [] first all = first
+last_holds P before (x ∷ xs) first all = last_holds P x xs (All-head P x xs all) (All-tail P x xs all)
 
 -- ---- the log of the rounds
 
@@ -46,12 +57,28 @@ pub record IsRoundsLog (c : Meaning) (from : ℕ) (given : Rows) (rounds : ℕ) 
 pub bound_log : (c : Meaning) (from : ℕ) (given : Rows) (effort : Effort) (lines : List BoundLine) → IsRoundsLog c from given effort.rounds lines → IsBoundLog c from given effort lines
 bound_log c from given effort lines p =
     let within : (last_line no_line lines).round ≤ effort.rounds = p.within in
-    record { bounds = p.bounds; each = All-weaker (IsRoundBound c from given) (λ x. x.round ≤ effort.rounds → IsRoundBound c from given x) (λ x is early. is) lines p.each; rises = p.rises; within = omega arith; first = p.first }
+    record {
+      bounds = p.bounds;
+      each = All-weaker (IsRoundBound c from given) (λ x. x.round ≤ effort.rounds → IsRoundBound c from given x) (λ x is early. is) lines p.each;
+      later = All-weaker (λ x. x.round ≤ (last_line no_line lines).round) (λ x. effort.rounds < x.round → IsNodesBound c from given x.bound) (λ x few beyond. absurd (omega (arith, few, beyond, within))) lines (none_later no_line lines p.rises);
+      rises = p.rises;
+      within = omega arith;
+      first = p.first;
+    }
 
 -- ---- the first line
 
 pub first_text : (c : Meaning) (given : Rows) (total : ℕ) → total ≡ penalty c given → line (start_word c) total ≡ bound_log_text c given []
 first_text c given total e = ap (line (start_word c)) e ∙ sym (append-nil (line (start_word c) (penalty c given)))
+
+-- ---- the first round's dual prices
+
+even_within : (scale : ℕ) (asks : Bool) → (if asks then scale * staffing_weight else 0) ≤ scale * most_dual_price
+even_within scale true = omega arith
+even_within scale false = omega arith
+
+pub first_are_dual_prices : (c : Meaning) → AreDualPrices 1 (first_dual_prices c 1)
+first_are_dual_prices c d s k = even_within 1 (asks_for_nurses c d s k)
 
 -- ---- the bound of a round, after this many others
 
@@ -68,26 +95,22 @@ module _ (c : Meaning) (from : ℕ) (given : Rows) where
   bounds_below made bound t = subst (IsLowerBound c from given) (sym t.bound_is) (no_roster_below c from given t.scale t.dual_prices t.some t.are_dual_prices)
 
   -- the first round
-  even_within : (scale : ℕ) (asks : Bool) → (if asks then scale * staffing_weight else 0) ≤ scale * most_dual_price
-  even_within scale true = omega arith
-  even_within scale false = omega arith
-
   first_below : IsLowerBound c from given (first_bound c from given)
-  first_below = no_roster_below c from given 1 (first_dual_prices c 1) (omega arith) (λ d s k. even_within 1 (asks_for_nurses c d s k))
+  first_below = no_roster_below c from given 1 (first_dual_prices c 1) (omega arith) (first_are_dual_prices c)
 
-  first_bounds : IsBoundOfRound c from given 0 (first_bound c from given)
+  pub first_bounds : IsBoundOfRound c from given 0 (first_bound c from given)
   first_bounds = record {
     scale = 1;
     some = omega arith;
     dual_prices = first_dual_prices c 1;
-    are_dual_prices = λ d s k. even_within 1 (asks_for_nurses c d s k);
+    are_dual_prices = first_are_dual_prices c;
     bound_is = refl;
     first = λ e. refl;
   }
 
   -- ---- the log of no round, of later ones, and of one more
 
-  no_log : IsRoundsLog c from given 0 []
+  pub no_log : IsRoundsLog c from given 0 []
   no_log = record { bounds = All-nil (λ x. IsLowerBound c from given x.bound); each = All-nil (IsRoundBound c from given); rises = tt; within = omega arith; first = λ some. absurd (omega (arith, some)) }
 
   reached_log : (made next : ℕ) (lines : List BoundLine) → made ≤ next → (0 < next → first_bound c from given ≤ (last_line no_line lines).bound) → IsRoundsLog c from given made lines → IsRoundsLog c from given next lines
@@ -95,7 +118,7 @@ module _ (c : Meaning) (from : ℕ) (given : Rows) where
       let within : (last_line no_line lines).round ≤ made = p.within in
       record { bounds = p.bounds; each = p.each; rises = p.rises; within = omega arith; first = some }
 
-  later_log : (made next : ℕ) (lines : List BoundLine) → made ≤ next → (0 < next → 0 < made) → IsRoundsLog c from given made lines → IsRoundsLog c from given next lines
+  pub later_log : (made next : ℕ) (lines : List BoundLine) → made ≤ next → (0 < next → 0 < made) → IsRoundsLog c from given made lines → IsRoundsLog c from given next lines
   later_log made next lines h some p = reached_log made next lines h (λ any. p.first (some any)) p
 
   -- the first round's bound is a lower bound, too
@@ -103,7 +126,7 @@ module _ (c : Meaning) (from : ℕ) (given : Rows) where
   first_within fits keeps = first_below given fits keeps (stays_self c from given)
 
   -- a round that didn't raise the lower bound
-  same_log : (made best bound : ℕ) (lines : List BoundLine) → IsRoundsLog c from given made lines → best ≡ (last_line no_line lines).bound → bound ≤ best → IsBoundOfRound c from given made bound → IsRoundsLog c from given (made + 1) lines
+  pub same_log : (made best bound : ℕ) (lines : List BoundLine) → IsRoundsLog c from given made lines → best ≡ (last_line no_line lines).bound → bound ≤ best → IsBoundOfRound c from given made bound → IsRoundsLog c from given (made + 1) lines
   same_log made best bound lines p best_is no_more t =
       let within : (last_line no_line lines).round ≤ made = p.within in
       record { bounds = p.bounds; each = p.each; rises = p.rises; within = omega arith; first = λ any. reached (cases_lt 0 made) }
@@ -120,7 +143,7 @@ module _ (c : Meaning) (from : ℕ) (given : Rows) where
       go (inl some) = omega (arith, reached some, more)
       go (inr none) = omega (arith, t.first (omega (arith, none)))
 
-  more_log : (made best bound : ℕ) (lines : List BoundLine) → IsRoundsLog c from given made lines → best ≡ (last_line no_line lines).bound → best < bound → IsBoundOfRound c from given made bound
+  pub more_log : (made best bound : ℕ) (lines : List BoundLine) → IsRoundsLog c from given made lines → best ≡ (last_line no_line lines).bound → best < bound → IsBoundOfRound c from given made bound
       → IsRoundsLog c from given (made + 1) (lines ++ record { round = made + 1; bound = bound } ∷ [])
   more_log made best bound lines p best_is more t =
       let x : BoundLine = record { round = made + 1; bound = bound } in
@@ -135,20 +158,6 @@ module _ (c : Meaning) (from : ℕ) (given : Rows) where
         within = omega (arith, ap (λ (y : BoundLine). y.round) (last_is no_line lines x));
         first = λ any. omega (arith, above, ap (λ (y : BoundLine). y.bound) (last_is no_line lines x));
       }
-
-  -- there is some log
-  rounds_log : (rounds : ℕ) → (lines : List BoundLine) × IsRoundsLog c from given rounds lines
-  rounds_log zero = ([], no_log)
-  rounds_log (suc n) = go (cases_lt 0 (first_bound c from given))
-    where
-      go : (0 < first_bound c from given) ⊎ (first_bound c from given ≤ 0) → (lines : List BoundLine) × IsRoundsLog c from given (suc n) lines
-      go (inl some) =
-          let lines : List BoundLine = record { round = 0 + 1; bound = first_bound c from given } ∷ [] in
-          (lines, later_log (0 + 1) (suc n) lines (omega arith) (λ any. omega arith) (more_log 0 0 (first_bound c from given) [] no_log refl some first_bounds))
-      go (inr none) = ([], later_log (0 + 1) (suc n) [] (omega arith) (λ any. omega arith) (same_log 0 0 (first_bound c from given) [] no_log refl none first_bounds))
-
-  pub some_log : (effort : Effort) → (lines : List BoundLine) × IsBoundLog c from given effort lines
-  some_log effort = let some = rounds_log effort.rounds in (some.0, bound_log c from given effort some.0 some.1)
 
 -- ---- the rounds made so far
 
@@ -169,23 +178,11 @@ text_more c given xs x =
     ∙ ap (λ text. first_line c given ++ text) (ap (λ text. flat_map bound_line xs ++ text) (sym (append-nil (bound_line x))) ∙ sym (flat_map-append bound_line xs (x ∷ [])))
 
 module _ {W : Type 0} (contents : W → Option (List ℕ)) (c : Meaning) (from : ℕ) (given : Rows) (old : Watched W) where
-  pub Going-start : (new : Watched W) (sent : ℕ) → Sends contents old new 0 sent (bound_log_text c given []) → Going contents c from given old new 0 sent 0
+  unfoldable pub Going-start : (new : Watched W) (sent : ℕ) → Sends contents old new 0 sent (bound_log_text c given []) → Going contents c from given old new 0 sent 0
   Going-start new sent p = record { lines = []; is_log = no_log c from given; sends = p; best_is = refl }
 
-  -- the first line broke off, whatever would have come after it
-  pub start_breaks : (rounds : ℕ) (new : Watched W) (fault : WriteFault) → BreaksIn contents old new 0 (bound_log_text c given []) fault → BoundLogStops contents c from given (rounds_alone rounds) old new (LogFailed (sent_of fault))
-  start_breaks rounds new fault p =
-      let some = some_log c from given (rounds_alone rounds) in
-      record {
-        lines = some.0;
-        is_log = some.1;
-        sent = p.sent;
-        stops = StopsAt-append contents old new (line (start_word c) (penalty c given)) (flat_map bound_line some.0) p.sent (subst (λ text. StopsAt contents old new text p.sent) (append-nil (line (start_word c) (penalty c given))) p.stops);
-        counted = ap (λ f. LogFailed (sent_of f)) p.counted ∙ ap (λ n. LogFailed (saturated n)) (zero-add p.sent);
-      }
-
   -- a round that didn't raise the lower bound
-  pub Going-same : (mid : Watched W) (made sent best bound : ℕ) → Going contents c from given old mid made sent best → bound ≤ best → IsBoundOfRound c from given made bound → Going contents c from given old mid (made + 1) sent best
+  unfoldable pub Going-same : (mid : Watched W) (made sent best bound : ℕ) → Going contents c from given old mid made sent best → bound ≤ best → IsBoundOfRound c from given made bound → Going contents c from given old mid (made + 1) sent best
   Going-same mid made sent best bound p no_more t = record {
     lines = p.lines;
     is_log = same_log c from given made best bound p.lines p.is_log p.best_is no_more t;
@@ -193,7 +190,7 @@ module _ {W : Type 0} (contents : W → Option (List ℕ)) (c : Meaning) (from :
     best_is = p.best_is;
   }
 
-  pub Going-raised : (mid new : Watched W) (made sent after best bound : ℕ) → Going contents c from given old mid made sent best → best < bound → IsBoundOfRound c from given made bound
+  unfoldable pub Going-raised : (mid new : Watched W) (made sent after best bound : ℕ) → Going contents c from given old mid made sent best → best < bound → IsBoundOfRound c from given made bound
       → Sends contents mid new sent after (bound_line (record { round = made + 1; bound = bound })) → Going contents c from given old new (made + 1) after bound
   Going-raised mid new made sent after best bound p more t q =
       let x : BoundLine = record { round = made + 1; bound = bound } in
@@ -204,107 +201,25 @@ module _ {W : Type 0} (contents : W → Option (List ℕ)) (c : Meaning) (from :
         best_is = sym (ap (λ (y : BoundLine). y.bound) (last_is no_line p.lines x));
       }
 
-  -- its line broke off
-  pub raised_breaks : (rounds : ℕ) (mid new : Watched W) (made sent best bound : ℕ) (fault : WriteFault) → Going contents c from given old mid made sent best → made < rounds → best < bound → IsBoundOfRound c from given made bound
-      → BreaksIn contents mid new sent (bound_line (record { round = made + 1; bound = bound })) fault → BoundLogStops contents c from given (rounds_alone rounds) old new (LogFailed (sent_of fault))
-  raised_breaks rounds mid new made sent best bound fault p inside more t q =
-      let x : BoundLine = record { round = made + 1; bound = bound } in
-      let front : sent ≡ saturated (0 + length (bound_log_text c given p.lines)) = p.sends.counted in
-      let count : saturated (sent + q.sent) ≡ saturated (length (bound_log_text c given p.lines) + q.sent) = omega arith in
-      record {
-        lines = p.lines ++ x ∷ [];
-        is_log = bound_log c from given (rounds_alone rounds) (p.lines ++ x ∷ [])
-            (later_log c from given (made + 1) rounds (p.lines ++ x ∷ []) (omega arith) (λ any. omega arith) (more_log c from given made best bound p.lines p.is_log p.best_is more t));
-        sent = length (bound_log_text c given p.lines) + q.sent;
-        stops = subst (λ text. StopsAt contents old new text (length (bound_log_text c given p.lines) + q.sent)) (text_more c given p.lines x) (StopsAt-after contents old mid new (bound_log_text c given p.lines) (bound_line x) q.sent p.sends.writes q.stops);
-        counted = ap (λ f. LogFailed (sent_of f)) q.counted ∙ ap LogFailed count;
-      }
+  -- ---- the log once no more rounds are made
 
-  pub Going-end : (rounds : ℕ) (new : Watched W) (made sent best : ℕ) → Going contents c from given old new made sent best → made ≤ rounds → rounds ≤ made
-      → HasReached contents c from given (rounds_alone rounds) old new (record { bound = best; sent = sent })
-  Going-end rounds new made sent best p few all = record {
-    lines = p.lines;
-    is_log = bound_log c from given (rounds_alone rounds) p.lines (later_log c from given made rounds p.lines few (λ some. omega (arith, some, all)) p.is_log);
-    sends = p.sends;
-    bound_is = p.best_is;
-  }
+  -- all were made
+  pub log_at_end : (rounds : ℕ) (new : Watched W) (made sent best : ℕ) (p : Going contents c from given old new made sent best) → made ≤ rounds → rounds ≤ made → IsBoundLog c from given (rounds_alone rounds) p.lines
+  log_at_end rounds new made sent best p few all = bound_log c from given (rounds_alone rounds) p.lines (later_log c from given made rounds p.lines few (λ some. omega (arith, some, all)) p.is_log)
 
-  -- no more rounds are made, though not all were
-  pub Going-barren : (rounds : ℕ) (new : Watched W) (made sent best : ℕ) → Going contents c from given old new made sent best → made ≤ rounds → 0 < made
-      → HasReached contents c from given (rounds_alone rounds) old new (record { bound = best; sent = sent })
-  Going-barren rounds new made sent best p few some = record {
-    lines = p.lines;
-    is_log = bound_log c from given (rounds_alone rounds) p.lines (later_log c from given made rounds p.lines few (λ any. some) p.is_log);
-    sends = p.sends;
-    bound_is = p.best_is;
-  }
+  -- not all were made
+  pub log_of_some : (rounds : ℕ) (new : Watched W) (made sent best : ℕ) (p : Going contents c from given old new made sent best) → made ≤ rounds → 0 < made → IsBoundLog c from given (rounds_alone rounds) p.lines
+  log_of_some rounds new made sent best p few some = bound_log c from given (rounds_alone rounds) p.lines (later_log c from given made rounds p.lines few (λ any. some) p.is_log)
 
   -- the lower bound is what the given roster costs: then it is no less than any bound
-  pub Going-met : (rounds : ℕ) (new : Watched W) (made sent best : ℕ) → Going contents c from given old new made sent best → made ≤ rounds → penalty c given ≤ best → fits_case c given ≡ true → keeps_hard c given ≡ true
-      → HasReached contents c from given (rounds_alone rounds) old new (record { bound = best; sent = sent })
-  Going-met rounds new made sent best p few met fits keeps = record {
-    lines = p.lines;
-    is_log = bound_log c from given (rounds_alone rounds) p.lines (reached_log c from given made rounds p.lines few (λ some. omega (arith, met, p.best_is, first_within c from given fits keeps)) p.is_log);
-    sends = p.sends;
-    bound_is = p.best_is;
-  }
+  pub log_of_met : (rounds : ℕ) (new : Watched W) (made sent best : ℕ) (p : Going contents c from given old new made sent best) → made ≤ rounds → penalty c given ≤ best → fits_case c given ≡ true → keeps_hard c given ≡ true
+      → IsBoundLog c from given (rounds_alone rounds) p.lines
+  log_of_met rounds new made sent best p few met fits keeps =
+      bound_log c from given (rounds_alone rounds) p.lines (reached_log c from given made rounds p.lines few (λ some. omega (arith, met, p.best_is, first_within c from given fits keeps)) p.is_log)
 
-  -- ---- the branchings made so far
-
-  -- it stays one if more branchings may be made
-  later_nodes : (effort : Effort) (more : ℕ) (lines : List BoundLine) → effort.nodes ≤ more → IsBoundLog c from given effort lines → IsBoundLog c from given (record effort { nodes = more }) lines
-  later_nodes effort more lines few p =
-      let within : (last_line no_line lines).round ≤ effort.rounds + effort.nodes = p.within in
-      record { bounds = p.bounds; each = p.each; rises = p.rises; within = omega arith; first = p.first }
-
-  pub reached-later : (effort : Effort) (more : ℕ) (mid : Watched W) (reached : Reached) → effort.nodes ≤ more → HasReached contents c from given effort old mid reached → HasReached contents c from given (record effort { nodes = more }) old mid reached
-  reached-later effort more mid reached few p = record { lines = p.lines; is_log = later_nodes effort more p.lines few p.is_log; sends = p.sends; bound_is = p.bound_is }
-
-  pub stops-later : (effort : Effort) (more : ℕ) (mid : Watched W) (fault : LogFault) → effort.nodes ≤ more → BoundLogStops contents c from given effort old mid fault → BoundLogStops contents c from given (record effort { nodes = more }) old mid fault
-  stops-later effort more mid fault few p = record { lines = p.lines; is_log = later_nodes effort more p.lines few p.is_log; sent = p.sent; stops = p.stops; counted = p.counted }
-
-  pub reached-end : (effort : Effort) (mid : Watched W) (reached : Reached) → HasReached contents c from given effort old mid reached → RaisesBound contents c from given effort old mid reached.bound
-  reached-end effort mid reached p = record { lines = p.lines; is_log = p.is_log; writes = p.sends.writes; bound_is = p.bound_is }
-
-  -- a branching that raised the lower bound
-  branched_log : (rounds branched best bound : ℕ) (lines : List BoundLine) → IsBoundLog c from given (record { rounds = rounds; nodes = branched }) lines → best ≡ (last_line no_line lines).bound → best < bound → IsLowerBound c from given bound
-      → IsBoundLog c from given (record { rounds = rounds; nodes = branched + 1 }) (lines ++ record { round = rounds + branched + 1; bound = bound } ∷ [])
-  branched_log rounds branched best bound lines p best_is more below =
-      let x : BoundLine = record { round = rounds + branched + 1; bound = bound } in
-      let within : (last_line no_line lines).round ≤ rounds + branched = p.within in
-      let Early : BoundLine → Type 0 = λ y. y.round ≤ rounds → IsRoundBound c from given y in
-      record {
-        bounds = All-append (λ y. IsLowerBound c from given y.bound) lines (x ∷ []) p.bounds (All-cons (λ y. IsLowerBound c from given y.bound) x [] below (All-nil (λ y. IsLowerBound c from given y.bound)));
-        each = All-append Early lines (x ∷ []) p.each (All-cons Early x [] (λ early. absurd (omega (arith, early))) (All-nil Early));
-        rises = rises_more no_line lines x p.rises (omega arith) (omega arith);
-        within = omega (arith, ap (λ (y : BoundLine). y.round) (last_is no_line lines x));
-        first = λ any. omega (arith, p.first any, ap (λ (y : BoundLine). y.bound) (last_is no_line lines x));
-      }
-
-  pub reached-raised : (rounds branched after bound : ℕ) (mid new : Watched W) (reached : Reached) → HasReached contents c from given (record { rounds = rounds; nodes = branched }) old mid reached → reached.bound < bound → IsLowerBound c from given bound
-      → Sends contents mid new reached.sent after (bound_line (record { round = rounds + branched + 1; bound = bound }))
-      → HasReached contents c from given (record { rounds = rounds; nodes = branched + 1 }) old new (record { bound = bound; sent = after })
-  reached-raised rounds branched after bound mid new reached p more below q =
-      let x : BoundLine = record { round = rounds + branched + 1; bound = bound } in
-      record {
-        lines = p.lines ++ x ∷ [];
-        is_log = branched_log rounds branched reached.bound bound p.lines p.is_log p.bound_is more below;
-        sends = subst (Sends contents old new 0 after) (text_more c given p.lines x) (Sends-append contents old mid new 0 reached.sent after (bound_log_text c given p.lines) (bound_line x) p.sends q);
-        bound_is = sym (ap (λ (y : BoundLine). y.bound) (last_is no_line p.lines x));
-      }
-
-  -- its line broke off
-  pub branched_breaks : (rounds branched bound : ℕ) (mid new : Watched W) (reached : Reached) (fault : WriteFault) → HasReached contents c from given (record { rounds = rounds; nodes = branched }) old mid reached → reached.bound < bound → IsLowerBound c from given bound
-      → BreaksIn contents mid new reached.sent (bound_line (record { round = rounds + branched + 1; bound = bound })) fault
-      → BoundLogStops contents c from given (record { rounds = rounds; nodes = branched + 1 }) old new (LogFailed (sent_of fault))
-  branched_breaks rounds branched bound mid new reached fault p more below q =
-      let x : BoundLine = record { round = rounds + branched + 1; bound = bound } in
-      let front : reached.sent ≡ saturated (0 + length (bound_log_text c given p.lines)) = p.sends.counted in
-      let count : saturated (reached.sent + q.sent) ≡ saturated (length (bound_log_text c given p.lines) + q.sent) = omega arith in
-      record {
-        lines = p.lines ++ x ∷ [];
-        is_log = branched_log rounds branched reached.bound bound p.lines p.is_log p.bound_is more below;
-        sent = length (bound_log_text c given p.lines) + q.sent;
-        stops = subst (λ text. StopsAt contents old new text (length (bound_log_text c given p.lines) + q.sent)) (text_more c given p.lines x) (StopsAt-after contents old mid new (bound_log_text c given p.lines) (bound_line x) q.sent p.sends.writes q.stops);
-        counted = ap (λ f. LogFailed (sent_of f)) q.counted ∙ ap LogFailed count;
-      }
+  -- the line of a round broke off
+  pub log_with_line : (rounds : ℕ) (mid : Watched W) (made sent best bound : ℕ) (p : Going contents c from given old mid made sent best) → made < rounds → best < bound → IsBoundOfRound c from given made bound
+      → IsBoundLog c from given (rounds_alone rounds) (p.lines ++ record { round = made + 1; bound = bound } ∷ [])
+  log_with_line rounds mid made sent best bound p inside more t =
+      let lines : List BoundLine = p.lines ++ record { round = made + 1; bound = bound } ∷ [] in
+      bound_log c from given (rounds_alone rounds) lines (later_log c from given (made + 1) rounds lines (omega arith) (λ any. omega arith) (more_log c from given made best bound p.lines p.is_log p.best_is more t))

@@ -8,3 +8,4 @@ pub mod SameBounds
 pub mod WholePoints
 pub mod BoundLogLaws
 pub mod RoundLaws
+pub mod BranchingLaws

@@ -1,9 +1,9 @@
 -- The two children of a node contain its rosters, so nodes that contain all rosters do so after a branching.
-use Rattle.std.proofs.Common.{◌≡◌, ◌∙◌, ◌+◌, ◌<◌, ◌≤◌, ◌&&◌, ◌||◌, ◌⊎◌, ◌++◌, ℕ, Bool, true, false, not, ap, arith, inl, inr, refl, subst, sym, List, [], ◌∷◌, length, set, get_or, if◌then◌else◌}
+use Rattle.std.proofs.Common.{◌≡◌, ◌∙◌, ◌+◌, ◌<◌, ◌≤◌, ◌&&◌, ◌||◌, ◌⊎◌, ◌++◌, ℕ, Bool, true, false, not, ap, append-nil, append_assoc, arith, inl, inr, max, refl, subst, sym, List, [], ◌∷◌, length, set, get_or, if◌then◌else◌}
 use Rattle.std.specs.List.{All, list_all, list_any}
-use Rattle.std.proofs.lemmas.Bool.{cases_eq}
+use Rattle.std.proofs.lemmas.Bool.{cases_eq, cases_lt}
 use Rattle.std.proofs.lemmas.List.{get_or-set_other, get_or-set_same, get_or_append_left, get_or_default, get_or_push, length-set, length_push}
-use Rattle.std.proofs.lemmas.List.Elements.{All-cons, All-contains, All-get_or, All-nil, All-push, All-set}
+use Rattle.std.proofs.lemmas.List.Elements.{All-cons, All-contains, All-from_get_or, All-get_or, All-nil, All-push, All-set}
 use Rattle.std.proofs.lemmas.List.Folds.{Any-from_list_any, list_all-append, list_any_at}
 use Rattle.arrayvec.specs.ArrayVec.{ArrayVec}
 use Rattle.roster_instance.specs.Choices.{same_choice}
@@ -11,7 +11,7 @@ use Rattle.roster_instance.specs.Meaning.{Meaning}
 use Rattle.roster_instance.specs.Rosters.{Rows, choice_on, row_of}
 use Rattle.roster_prices.specs.declared.decisions.Decision.{Decision}
 use Rattle.roster_bound.specs.declared.nodes.Node.{Node}
-use Rattle.roster_bound.specs.Branching.{AreNodesOf, AreChildrenOf, IsRoot}
+use Rattle.roster_bound.specs.Branching.{AreNodesOf, AreChildrenOf, IsBoundByPrices, IsFirstLeastAt, IsLeastOf, IsPriced, IsRoot}
 use Rattle.roster_prices.specs.Nodes.{IsLowerBoundIn, is_as_decided, is_in_node, other_way}
 use Rattle.roster_prices.specs.LowerBounds.{IsLowerBound}
 
@@ -48,13 +48,23 @@ module _ (c : Meaning) (from : ℕ) (given : Rows) where
   HasBound node = IsLowerBoundIn c from given node.decisions.items node.bound
 
   -- the node of all rosters
-  pub root_is : (bound : ℕ) (nodes : List Node) → IsLowerBound c from given bound → IsRoot bound nodes → AreNodesOf c from given nodes
-  root_is bound nodes below w =
+  root_priced : (node : Node) → node.decisions.items ≡ [] → (node.bound ≡ 0) ⊎ IsBoundByPrices c from given [] node.bound → IsPriced c from given node
+  root_priced node none (inl zero) = inl zero
+  root_priced node none (inr by) = inr (record { first = []; rest = []; decisions = none; by_prices = by })
+
+  pub root_is : (bound : ℕ) (nodes : List Node) → IsLowerBound c from given bound → (bound ≡ 0) ⊎ IsBoundByPrices c from given [] bound → IsRoot bound nodes → AreNodesOf c from given nodes
+  root_is bound nodes below by w =
       let P : List Node → Type 0 = λ ps. AreNodesOf c from given ps in
+      let Of : ℕ → Type 0 = λ b. (b ≡ 0) ⊎ IsBoundByPrices c from given [] b in
       subst P (sym w.only) (record {
         all = λ r. ap (λ (ds : List Decision). is_in_node ds r || false) w.decisions;
         bounds = All-cons HasBound w.node [] (λ r fits keeps stays kept. omega (arith, below r fits keeps stays, w.bound_is)) (All-nil HasBound);
+        priced = All-cons (IsPriced c from given) w.node [] (root_priced w.node w.decisions (subst Of (sym w.bound_is) by)) (All-nil (IsPriced c from given));
       })
+
+  -- there is a node
+  pub some_node : (nodes : List Node) → AreNodesOf c from given nodes → 0 < length nodes
+  some_node nodes are = let any = Any-from_list_any (λ (node : Node). is_in_node node.decisions.items []) nodes (are.all []) in omega (arith, any.2)
 
   -- a lower bound that is no more than each of theirs
   pub bound_of_all : (nodes : List Node) (bound : ℕ) → AreNodesOf c from given nodes → All (λ node. bound ≤ node.bound) nodes → IsLowerBound c from given bound
@@ -112,10 +122,11 @@ module _ (c : Meaning) (from : ℕ) (given : Rows) where
             | inr other ↦ other_here any.0 any.1 any.2 other any.3 any.4
           ]
 
-    pub branched : HasBound with → HasBound without → AreNodesOf c from given (set (nodes ++ without ∷ []) at with)
-    branched bound_with bound_without = record {
+    pub branched : HasBound with → HasBound without → IsPriced c from given with → IsPriced c from given without → AreNodesOf c from given (set (nodes ++ without ∷ []) at with)
+    branched bound_with bound_without priced_with priced_without = record {
       all = all_next;
       bounds = All-set HasBound (nodes ++ without ∷ []) at with bound_with (All-push HasBound nodes without are.bounds bound_without);
+      priced = All-set (IsPriced c from given) (nodes ++ without ∷ []) at with priced_with (All-push (IsPriced c from given) nodes without are.priced priced_without);
     }
 
   -- after a node got a greater lower bound
@@ -141,11 +152,30 @@ module _ (c : Meaning) (from : ℕ) (given : Rows) where
             | inr other ↦ still_here any.0 any.1 any.2 other any.3 any.4
           ]
 
-    pub raised_nodes : HasBound raised → AreNodesOf c from given (set nodes at raised)
-    raised_nodes bound = record { all = all_raised; bounds = All-set HasBound nodes at raised bound are.bounds }
+    pub raised_nodes : HasBound raised → IsPriced c from given raised → AreNodesOf c from given (set nodes at raised)
+    raised_nodes bound priced = record { all = all_raised; bounds = All-set HasBound nodes at raised bound are.bounds; priced = All-set (IsPriced c from given) nodes at raised priced are.priced }
 
   pub bound_at : (nodes : List Node) (at : ℕ) (node : Node) → AreNodesOf c from given nodes → at < length nodes → node ≡ get_or nodes at node → HasBound node
   bound_at nodes at node are inside reads = subst HasBound (sym reads) (All-get_or HasBound nodes at node inside are.bounds)
+
+  pub priced_at : (nodes : List Node) (at : ℕ) (node : Node) → AreNodesOf c from given nodes → at < length nodes → node ≡ get_or nodes at node → IsPriced c from given node
+  priced_at nodes at node are inside reads = subst (IsPriced c from given) (sym reads) (All-get_or (IsPriced c from given) nodes at node inside are.priced)
+
+  -- the greater of a node's bound and one by dual prices
+  pub raised_priced : (node raised : Node) (bound : ℕ) → raised.decisions ≡ node.decisions → raised.bound ≡ max node.bound bound → IsPriced c from given node → IsBoundByPrices c from given node.decisions.items bound → IsPriced c from given raised
+  raised_priced node raised bound same is priced by = go (cases_lt node.bound bound) priced
+    where
+      items : raised.decisions.items ≡ node.decisions.items
+      items = ap (λ (ds : ArrayVec Decision). ds.items) same
+
+      go : (node.bound < bound) ⊎ (bound ≤ node.bound) → IsPriced c from given node → IsPriced c from given raised
+      go (inl more) p =
+          let now : bound ≡ raised.bound = omega (arith, is, more) in
+          inr (record { first = node.decisions.items; rest = []; decisions = items ∙ sym (append-nil node.decisions.items); by_prices = subst (IsBoundByPrices c from given node.decisions.items) now by })
+      go (inr less) (inl none) = inl (omega (arith, is, less, none))
+      go (inr less) (inr p) =
+          let now : node.bound ≡ raised.bound = omega (arith, is, less) in
+          inr (record { first = p.first; rest = p.rest; decisions = items ∙ p.decisions; by_prices = subst (IsBoundByPrices c from given p.first) now p.by_prices })
 
   -- ---- both children of a node have its lower bound
 
@@ -166,3 +196,100 @@ module _ (c : Meaning) (from : ℕ) (given : Rows) where
   child_bounds nodes at node one other are inside reads two =
       let has : HasBound node = bound_at nodes at node are inside reads in
       (one_bound node one two.decision two.with_is two.with_bound has, one_bound node other (other_way two.decision) two.without_is two.without_bound has)
+
+  one_priced : (node one : Node) (x : Decision) → one.decisions.items ≡ node.decisions.items ++ x ∷ [] → one.bound ≡ node.bound → IsPriced c from given node → IsPriced c from given one
+  one_priced node one x is bound (inl none) = inl (bound ∙ none)
+  one_priced node one x is bound (inr p) =
+      inr (record {
+        first = p.first;
+        rest = p.rest ++ x ∷ [];
+        decisions = is ∙ ap (λ ds. ds ++ x ∷ []) p.decisions ∙ append_assoc p.first p.rest (x ∷ []);
+        by_prices = subst (IsBoundByPrices c from given p.first) (sym bound) p.by_prices;
+      })
+
+  pub child_prices : (nodes : List Node) (at : ℕ) (node one other : Node) → AreNodesOf c from given nodes → at < length nodes → node ≡ get_or nodes at node → AreChildrenOf node one other → IsPriced c from given one × IsPriced c from given other
+  child_prices nodes at node one other are inside reads two =
+      let has : IsPriced c from given node = priced_at nodes at node are inside reads in
+      (one_priced node one two.decision two.with_is two.with_bound has, one_priced node other (other_way two.decision) two.without_is two.without_bound has)
+
+-- ---- the first node with the least bound
+
+-- the same among the first nodes
+pub record IsLeastSoFar (nodes : List Node) (least seen : ℕ) : Type 0 where
+  pub node : Node
+  pub within : least < length nodes
+  pub here : get_or nodes least node ≡ node
+  pub before : (k : ℕ) (x : Node) → k < least → get_or nodes k x ≡ x → node.bound < x.bound
+  pub so_far : (k : ℕ) (x : Node) → k < seen → get_or nodes k x ≡ x → node.bound ≤ x.bound
+
+pub least-begin : (nodes : List Node) → 0 < length nodes → IsLeastSoFar nodes 0 1
+least-begin [] some = absurd (omega (arith, some))
+least-begin (x ∷ xs) some = record {
+  node = x;
+  within = omega (arith, some);
+  here = refl;
+  before = λ k y early is. absurd (omega (arith, early));
+  so_far = λ k y early is. omega (arith, ap (λ (z : Node). z.bound) (subst (λ n. get_or (x ∷ xs) n y ≡ y) (none k early) is));
+}
+  where
+    none : (k : ℕ) → k < 1 → k ≡ 0
+    none k early = omega (arith, early)
+
+module _ (nodes : List Node) (least at : ℕ) (now other : Node) (is : IsLeastSoFar nodes least at) (inside : at < length nodes) (reads : now ≡ get_or nodes at now) (there : other ≡ get_or nodes least other) where
+  least_is : other ≡ is.node
+  least_is = there ∙ get_or_default nodes least other is.node is.within ∙ is.here
+
+  -- the next one is no less
+  pub least-same : other.bound ≤ now.bound → IsLeastSoFar nodes least (at + 1)
+  least-same less = record {
+    node = is.node;
+    within = is.within;
+    here = is.here;
+    before = is.before;
+    so_far = λ k x early at_k. go k x at_k (cases_lt k at) early;
+  }
+    where
+      go : (k : ℕ) (x : Node) → get_or nodes k x ≡ x → (k < at) ⊎ (at ≤ k) → k < at + 1 → is.node.bound ≤ x.bound
+      go k x at_k (inl early) inside = is.so_far k x early at_k
+      go k x at_k (inr late) inside_k =
+          let same : k ≡ at = omega (arith, late, inside_k) in
+          let one : x ≡ now = sym at_k ∙ ap (λ n. get_or nodes n x) same ∙ get_or_default nodes at x now inside ∙ sym reads in
+          omega (arith, less, ap (λ (z : Node). z.bound) one, ap (λ (z : Node). z.bound) least_is)
+
+  -- the next one is less
+  pub least-next : now.bound < other.bound → IsLeastSoFar nodes at (at + 1)
+  least-next more = record {
+    node = now;
+    within = inside;
+    here = sym reads;
+    before = λ k x early at_k. omega (arith, more, is.so_far k x early at_k, ap (λ (z : Node). z.bound) least_is);
+    so_far = λ k x early at_k. go k x at_k (cases_lt k at) early;
+  }
+    where
+      go : (k : ℕ) (x : Node) → get_or nodes k x ≡ x → (k < at) ⊎ (at ≤ k) → k < at + 1 → now.bound ≤ x.bound
+      go k x at_k (inl early) inside_k = omega (arith, more, is.so_far k x early at_k, ap (λ (z : Node). z.bound) least_is)
+      go k x at_k (inr late) inside_k =
+          let same : k ≡ at = omega (arith, late, inside_k) in
+          let one : x ≡ now = sym at_k ∙ ap (λ n. get_or nodes n x) same ∙ get_or_default nodes at x now inside ∙ sym reads in
+          omega (arith, ap (λ (z : Node). z.bound) one)
+
+-- all nodes are seen
+pub least-end : (nodes : List Node) (least seen : ℕ) → IsLeastSoFar nodes least seen → length nodes ≤ seen → IsFirstLeastAt nodes least
+least-end nodes least seen p all = record {
+  node = p.node;
+  within = p.within;
+  here = p.here;
+  before = p.before;
+  all = All-from_get_or (λ (x : Node). p.node.bound ≤ x.bound) nodes p.node (λ k inside. p.so_far k (get_or nodes k p.node) (omega (arith, inside, all)) (sym (get_or_default nodes k p.node (get_or nodes k p.node) inside)));
+}
+
+-- its bound is the least
+pub least_of : (nodes : List Node) (at : ℕ) (read : Node) → IsFirstLeastAt nodes at → read ≡ get_or nodes at read → IsLeastOf read.bound nodes
+least_of nodes at read p reads =
+    let same : read ≡ p.node = reads ∙ get_or_default nodes at read p.node p.within ∙ p.here in
+    record {
+      all = subst (λ (one : Node). All (λ (x : Node). one.bound ≤ x.bound) nodes) (sym same) p.all;
+      one = p.node;
+      here = (at, p.within, p.here);
+      bound_is = ap (λ (z : Node). z.bound) same;
+    }

@@ -1,15 +1,11 @@
--- The log of a run that raises a lower bound, and a run whose log a writer took, or at which it stopped (our
--- own).
-use Rattle.std.specs.Prelude.{◌≡◌, ℕ, ◌+◌, ◌*◌, ◌<◌, ◌≤◌, All, List, [], ◌∷◌, ◌++◌, codes, decimal, flat_map, Option}
-use Rattle.roster_text.specs.Io.{Sends, StopsAt, Watched, Writes, saturated}
+-- The log of a run that raises a lower bound (our own).
+use Rattle.std.specs.Prelude.{◌≡◌, ℕ, ◌+◌, ◌*◌, ◌<◌, ◌≤◌, All, List, [], ◌∷◌, ◌++◌, codes, decimal, flat_map}
 use Rattle.roster_instance.specs.Meaning.{Meaning}
 use Rattle.roster_instance.specs.Rosters.{Rows}
 use Rattle.roster_rules.specs.Penalties.{penalty}
 use Rattle.roster_rules.specs.Improver.{line, start_word}
-use Rattle.roster_reports.specs.declared.log_fault.LogFault.{LogFault}
-use Rattle.roster_reports.specs.declared.log_fault.LogFault.TheVariants.{LogFailed}
+use Rattle.roster_bound.specs.Branching.{IsNodesBound}
 use Rattle.roster_bound.specs.declared.effort.Effort.{Effort}
-use Rattle.roster_bound.specs.declared.effort.Reached.{Reached}
 use Rattle.roster_slots.specs.Slots.{AreDualPrices, SlotPrices}
 use Rattle.roster_prices.specs.LowerBounds.{IsLowerBound, bound_by, first_bound}
 
@@ -56,12 +52,13 @@ abbrev pub rounds_alone : ℕ → Effort
 rounds_alone rounds = record { rounds = rounds; nodes = 0 }
 
 -- each line is a lower bound, greater than the one before; no line is beyond the rounds and the branchings,
--- which are numbered after them; a round's lower bound is its bound; if there is a round, the last lower
--- bound is no less than the first round's bound
+-- which are numbered after them; a round's lower bound is its bound, and that of a branching is the least of
+-- some nodes; if there is a round, the last lower bound is no less than the first round's bound
 pub record IsBoundLog (c : Meaning) (from : ℕ) (given : Rows) (effort : Effort)
     (lines : List BoundLine) : Type 0 where
   pub bounds : All (λ x. IsLowerBound c from given x.bound) lines
   pub each : All (λ x. x.round ≤ effort.rounds → IsRoundBound c from given x) lines
+  pub later : All (λ x. effort.rounds < x.round → IsNodesBound c from given x.bound) lines
   pub rises : Rises no_line lines
   pub within : (last_line no_line lines).round ≤ effort.rounds + effort.nodes
   pub first : 0 < effort.rounds → first_bound c from given ≤ (last_line no_line lines).bound
@@ -73,30 +70,3 @@ bound_line x = line (codes "round " ++ decimal x.round) x.bound
 
 abbrev pub bound_log_text : Meaning → Rows → List BoundLine → List ℕ
 bound_log_text c given lines = line (start_word c) (penalty c given) ++ flat_map bound_line lines
-
--- ---- a writer that takes all, and one that stops
-
--- the log of some lower bounds was sent, in this many bytes, and the last of them was reached
-pub record HasReached {W : Type 0} (contents : W → Option (List ℕ)) (c : Meaning) (from : ℕ) (given : Rows)
-    (effort : Effort) (old new : Watched W) (reached : Reached) : Type 0 where
-  pub lines : List BoundLine
-  pub is_log : IsBoundLog c from given effort lines
-  pub sends : Sends contents old new 0 reached.sent (bound_log_text c given lines)
-  pub bound_is : reached.bound ≡ (last_line no_line lines).bound
-
--- the log of some lower bounds went out, and the answer is the last of them
-pub record RaisesBound {W : Type 0} (contents : W → Option (List ℕ)) (c : Meaning) (from : ℕ) (given : Rows)
-    (effort : Effort) (old new : Watched W) (bound : ℕ) : Type 0 where
-  pub lines : List BoundLine
-  pub is_log : IsBoundLog c from given effort lines
-  pub writes : Writes contents old new (bound_log_text c given lines)
-  pub bound_is : bound ≡ (last_line no_line lines).bound
-
--- only the first bytes of the log of some lower bounds went out
-pub record BoundLogStops {W : Type 0} (contents : W → Option (List ℕ)) (c : Meaning) (from : ℕ) (given : Rows)
-    (effort : Effort) (old new : Watched W) (fault : LogFault) : Type 0 where
-  pub lines : List BoundLine
-  pub is_log : IsBoundLog c from given effort lines
-  pub sent : ℕ
-  pub stops : StopsAt contents old new (bound_log_text c given lines) sent
-  pub counted : fault ≡ LogFailed (saturated sent)

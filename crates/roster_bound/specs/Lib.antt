@@ -1,3 +1,5 @@
+pub mod NodeCapacity
 pub mod Branching
-pub mod Rounds
 pub mod BoundLogs
+pub mod Rounds
+pub mod BoundRuns

@@ -1,14 +1,14 @@
 -- The rounds that raise a lower bound, and when no more of them are made (our own).
-use Rattle.std.specs.Prelude.{◌≡◌, ℕ, ◌+◌, ◌-◌, ◌*◌, ◌<◌, ◌≤◌, ◌⊎◌, All, List, [], ◌∷◌, ◌++◌, Option, if◌then◌else◌, length, max, nat_lt}
-use Rattle.roster_text.specs.Io.{Watched, Writes}
+use Rattle.std.specs.Prelude.{◌≡◌, ℕ, ◌+◌, ◌-◌, ◌*◌, ◌<◌, ◌≤◌, ◌⊎◌, All, List, [], ◌∷◌, ◌++◌, if◌then◌else◌, length, max, min, nat_lt}
 use Rattle.roster_instance.specs.Counting.{sum_below}
 use Rattle.roster_instance.specs.Meaning.{Meaning, day_count, nurse_count}
 use Rattle.roster_instance.specs.Rosters.{Rows}
+use Rattle.roster_rules.specs.Penalties.{penalty}
 use Rattle.roster_prices.specs.declared.decisions.Decision.{Decision}
 use Rattle.roster_offers.specs.Lists.{IsScaleOf}
-use Rattle.roster_prices.specs.LowerBounds.{in_points, row_bound, rounded_up}
+use Rattle.roster_prices.specs.LowerBounds.{IsLeast, in_points, row_bound, rounded_up}
 use Rattle.roster_prices.specs.Nodes.{row_bound_in}
-use Rattle.roster_bound.specs.BoundLogs.{BoundLine, bound_log_text, last_line, no_line}
+use Rattle.roster_bound.specs.BoundLogs.{BoundLine, last_line, no_line}
 use Rattle.roster_slots.specs.Slots.{AreDualPrices, SlotPrices, most_dual_price, slots_bound}
 
 -- what slots and nurses cost at least together, in parts of a point, with the greatest dual price still in
@@ -59,24 +59,32 @@ round_lines c scale [] = []
 round_lines c scale (x ∷ xs) =
     with_line (round_lines c scale xs) (record { round = length xs + 1; bound = bound_of_sum c scale x })
 
--- at most as many rounds as were asked for, of which the last thirty were barren; each counts an extension
--- for each nurse and day; the log has just the lines of these rounds, and those of branchings after them
-pub record EndsBarren {W : Type 0} (contents : W → Option (List ℕ)) (c : Meaning) (from : ℕ) (given : Rows)
-    (rounds old new : ℕ) (log after : Watched W) : Type 0 where
+-- all rounds were made, or the last thirty were barren
+abbrev pub AreEnough : (scale rounds : ℕ) → List ℕ → Type 0
+AreEnough scale rounds sums = (rounds ≤ length sums) ⊎ (most_barren ≤ barren_count scale sums)
+
+-- The lines are just those of some rounds, at most as many as were asked for, and of branchings after them. A
+-- round is left out only if the last lower bound is what the given roster costs, or if the last thirty rounds
+-- were barren.
+pub record AreLinesOfRounds (c : Meaning) (from : ℕ) (given : Rows) (rounds : ℕ)
+    (lines : List BoundLine) : Type 0 where
   pub scale : ℕ
   pub is_scale : IsScaleOf c scale
   pub sums : List ℕ
   pub each : All (IsRoundSum c from given scale) sums
-  pub barren : most_barren ≤ barren_count scale sums
   pub within : length sums ≤ rounds
-  pub made : old + length sums * (nurse_count c * day_count c) ≤ new
   pub branched : List BoundLine
   pub later : All (λ x. rounds < x.round) branched
-  pub writes : Writes contents log after (bound_log_text c given (round_lines c scale sums ++ branched))
+  pub lines_are : lines ≡ round_lines c scale sums ++ branched
+  pub enough : (last_line no_line lines).bound < penalty c given → AreEnough scale rounds sums
 
--- all rounds were made, or the last thirty were barren
-abbrev pub AreDone : {W : Type 0} (contents : W → Option (List ℕ)) → Meaning → ℕ → Rows →
-    (rounds old new : ℕ) (log after : Watched W) → Type 0
-AreDone contents c from given rounds old new log after =
-    (old + rounds * (nurse_count c * day_count c) ≤ new)
-    ⊎ EndsBarren contents c from given rounds old new log after
+-- the same, and each of these rounds counted an extension for each nurse and day
+pub record CountsRounds (c : Meaning) (from : ℕ) (given : Rows) (rounds old new : ℕ)
+    (lines : List BoundLine) : Type 0 where
+  pub are : AreLinesOfRounds c from given rounds lines
+  pub made : old + length are.sums * (nurse_count c * day_count c) ≤ new
+
+-- the given roster is optimal, or all rounds were searched, or thirty at least
+abbrev pub AreSearched : Meaning → ℕ → Rows → (rounds old new : ℕ) → Type 0
+AreSearched c from given rounds old new =
+    IsLeast c from given given ⊎ (old + min rounds most_barren * (nurse_count c * day_count c) ≤ new)

@@ -3,7 +3,9 @@
 //! The lower bound by any dual prices is defined in `specs/LowerBounds.antt` of `roster_prices`, and the log
 //! of a run in `specs/BoundLogs.antt`. `no_roster_is_below_the_bound` promises that it is a lower bound.
 //! `lower_bound` promises to return it, and `raise_bound` that each lower bound that its rounds report is
-//! that of some dual prices, and no less than the first round's.
+//! that of some dual prices, and no less than the first round's, and that each one that its branchings report
+//! is the least of such bounds over nodes that contain all rosters. `specs/Rounds.antt` says when a round is
+//! left out, and `specs/BoundRuns.antt` what a run leaves.
 //!
 //! The lower bound for the rosters of a node is defined in `specs/Nodes.antt` there, and nodes that contain
 //! all rosters in `specs/Branching.antt`. `choosing` takes the next branching decision, by how dual prices

@@ -1,7 +1,7 @@
 //! Nodes that together contain all rosters, each with a lower bound.
 
-ghost use Rattle.std.specs.Prelude.{◌≡◌, ◌<◌, ◌≤◌, ◌++◌, [], ◌∷◌, All, IfSome, if◌then◌else◌, length, set, true};
-ghost use Rattle.roster_bound.specs.Branching.{AreChildrenOf, IsRoot};
+ghost use Rattle.std.specs.Prelude.{◌≡◌, ◌<◌, ◌≤◌, ◌↔◌, ◌++◌, [], ◌∷◌, IfOk, IfSome, IsTrue, false, if◌then◌else◌, length, set, true, vec_capacity, vec_len};
+ghost use Rattle.roster_bound.specs.Branching.{AreChildrenOf, IsFirstLeastAt, IsLeastOf, IsRoot};
 
 use arrayvec::ArrayVec;
 use roster_instance::Case;
@@ -70,13 +70,17 @@ impl Node {
 }
 
 impl Nodes {
+    ghost use Rattle.roster_bound.specs.NodeCapacity.{nodes_capacity};
+
     /// Capacity for the nodes that this many branchings make, by two allocations if there are any: 528 bytes
     /// for each node, and 256 for each nurse.
     ///
     /// # Errors
     ///
     /// An allocation was refused.
-    pub(crate) fn for_nodes(alloc: Global, case: &Case, nodes: u16) -> Result<Nodes, AllocError> {
+    pub(crate) fn for_nodes(alloc: Global, case: &Case, nodes: u16) -> Result<Nodes, AllocError>
+        ensures { IfOk result (λ made. 0 < nodes → nodes < vec_capacity made.items) }
+    {
         case.keeps_limits();
         if nodes == 0 {
             return Ok(Nodes {
@@ -93,42 +97,40 @@ impl Nodes {
     /// Begins with one node, which has all rosters and this lower bound. Returns false if there is no
     /// capacity for it.
     pub(crate) fn begin(&mut self, bound: u64) -> bool
-        ensures { result ≡ true → IsRoot bound self.new.items.items }
+        ensures root { result ≡ true → IsRoot bound self.new.items.items }
+        ensures full { result ≡ false → vec_capacity self.old.items ≡ 0 }
+        ensures same_capacity { nodes_capacity self.new ≡ nodes_capacity self.old }
     {
         self.items.clear();
         if !self.has_capacity() {
             return false;
         }
-        let root = Node {
+        self.items.push_reserved(Node {
             decisions: ArrayVec::new(),
             bound,
-        };
-        let Ok(()) = self.items.push(root) else {
-            return false;
-        };
+        });
         true
     }
 
     /// Whether there is capacity for another node.
-    fn has_capacity(&self) -> bool {
+    fn has_capacity(&self) -> bool
+        ensures { IsTrue result ↔ (vec_len self.now.items < vec_capacity self.now.items) }
+    {
         self.items.len() < self.items.capacity()
     }
 
     /// The least of the lower bounds.
     pub(crate) fn bound(&self) -> u64
-        ensures { All (λ node. result ≤ node.bound) self.now.items.items }
+        requires { 0 < length self.now.items.items }
+        ensures { IsLeastOf result self.now.items.items }
     {
-        let mut bound = u64::MAX;
-        for node in &self.items {
-            bound = bound.min(node.bound);
-        }
-        bound
+        self.items[self.least()].bound
     }
 
     /// The first node with the least lower bound.
     pub(crate) fn least(&self) -> usize
         requires { 0 < length self.now.items.items }
-        ensures { result < length self.now.items.items }
+        ensures { IsFirstLeastAt self.now.items.items result }
     {
         let mut least = 0;
         for at in 1..self.items.len() {
@@ -143,16 +145,16 @@ impl Nodes {
     /// false.
     pub(crate) fn put_children(&mut self, at: usize, two: Children) -> bool
         requires { at < length self.old.items.items }
-        ensures { self.new.items.items ≡ (if result then set (self.old.items.items ++ two.without
+        ensures put { self.new.items.items ≡ (if result then set (self.old.items.items ++ two.without
             ∷ []) at two.with else self.old.items.items) }
+        ensures full { result ≡ false → vec_capacity self.old.items ≤ vec_len self.old.items }
+        ensures same_capacity { nodes_capacity self.new ≡ nodes_capacity self.old }
     {
         let Children { with, without } = two;
         if !self.has_capacity() {
             return false;
         }
-        let Ok(()) = self.items.push(without) else {
-            return false;
-        };
+        self.items.push_reserved(without);
         self.items[at] = with;
         true
     }

@@ -5,8 +5,10 @@ ghost use Rattle.roster_bundle.specs.Limits.{greatest_u64};
 ghost use Rattle.roster_instance.specs.Meaning.{nurse_count};
 ghost use Rattle.roster_rules.specs.Penalties.{penalty};
 ghost use Rattle.roster_laws.specs.Greatest.{extensions_in, greatest_extension_count};
-ghost use Rattle.roster_bound.specs.BoundLogs.{BoundLogStops, HasReached, RaisesBound, rounds_alone, rounds_of};
-ghost use Rattle.roster_bound.specs.Rounds.{AreDone, most_barren, sum_by};
+ghost use Rattle.roster_bound.specs.BoundLogs.{rounds_alone, rounds_of};
+ghost use Rattle.roster_bound.specs.BoundRuns.{BoundLogStops, HasReached, RaisesBound};
+ghost use Rattle.roster_bound.specs.NodeCapacity.{nodes_capacity};
+ghost use Rattle.roster_bound.specs.Rounds.{most_barren, sum_by};
 ghost use Rattle.roster_slots.specs.Tables.{slot_prices};
 ghost use Rattle.roster_slots.specs.Slots.{AreDualPrices};
 ghost use Rattle.roster_prices.specs.Workspaces.{CountsRound, FitsBound};
@@ -46,19 +48,16 @@ pub fn raise_bound<W: Write, T: SearchesRows>(
 ) -> Result<u64, LogFault>
     requires fits { FitsBound held.now.case space.old.bounds }
     requires room { meter.old + extensions_in held.now.case (rounds_of effort) ≤ greatest_u64 }
+    // A round is left out only if the lower bound is what the roster costs, or if the last thirty rounds were
+    // barren; the log shows these rounds, and the branchings after them, alone.
     ensures ok { IfOk result (RaisesBound W.contents held.now.case from held.now.roster
-        effort log.old log.new) }
+        effort meter.old meter.new log.old log.new) }
     ensures err { IfErr result (BoundLogStops W.contents held.now.case from held.now.roster
         effort log.old log.new) }
     ensures below { IfOk result (IsLowerBound held.now.case from held.now.roster) }
     ensures within { IfOk result (λ bound. bound ≤ penalty held.now.case held.now.roster) }
-
-    // A round is left out only if the lower bound is what the roster costs, or if the last thirty rounds were
-    // barren, and the log shows no other rounds.
-    ensures made { IfOk result (λ bound. bound < penalty held.now.case held.now.roster →
-        AreDone W.contents held.now.case from held.now.roster effort.rounds
-        meter.old meter.new log.old log.new) }
     ensures counted { meter.new ≤ meter.old + extensions_in held.now.case (rounds_of effort) }
+    ensures same_nodes { nodes_capacity space.new.nodes ≡ nodes_capacity space.old.nodes }
     ensures fits { FitsBound held.now.case space.new.bounds }
 {
     held.keeps_rules();
@@ -82,17 +81,16 @@ fn raise_below<W: Write, T: SearchesRows>(
     requires room { meter.old + extensions_in top.now.base.now.case.now (rounds_of effort)
         ≤ greatest_u64 }
     ensures ok { IfOk result (RaisesBound W.contents top.now.base.now.case.now
-        top.now.base.now.from top.now.base.now.given.now effort log.old log.new) }
+        top.now.base.now.from top.now.base.now.given.now effort meter.old meter.new log.old
+        log.new) }
     ensures err { IfErr result (BoundLogStops W.contents top.now.base.now.case.now
         top.now.base.now.from top.now.base.now.given.now effort log.old log.new) }
     ensures below { IfOk result (IsLowerBound top.now.base.now.case.now top.now.base.now.from
         top.now.base.now.given.now) }
     ensures within { IfOk result (λ bound. bound ≤ top.now.total) }
-    ensures made { IfOk result (λ b. b < top.now.total → AreDone W.contents
-        top.now.base.now.case.now top.now.base.now.from top.now.base.now.given.now
-        effort.rounds meter.old meter.new log.old log.new) }
     ensures counted { meter.new ≤ meter.old + extensions_in top.now.base.now.case.now
         (rounds_of effort) }
+    ensures same_nodes { nodes_capacity space.new.nodes ≡ nodes_capacity space.old.nodes }
     ensures fits { FitsBound top.now.base.now.case.now space.new.bounds }
 {
     let mut reached = make_rounds(top, effort.rounds, &mut space.bounds, meter, log)?;
@@ -129,16 +127,13 @@ fn make_rounds<W: Write, T: SearchesRows>(
     requires fits { FitsBound top.now.base.now.case.now workspace.old }
     requires room { meter.old + extensions_in top.now.base.now.case.now rounds ≤ greatest_u64 }
     ensures ok { IfOk result (HasReached W.contents top.now.base.now.case.now
-        top.now.base.now.from top.now.base.now.given.now (rounds_alone rounds) log.old
-        log.new) }
+        top.now.base.now.from top.now.base.now.given.now (rounds_alone rounds) meter.old
+        meter.new log.old log.new) }
     ensures err { IfErr result (BoundLogStops W.contents top.now.base.now.case.now
         top.now.base.now.from top.now.base.now.given.now (rounds_alone rounds) log.old
         log.new) }
     ensures below { IfOk result (λ reached. IsLowerBound top.now.base.now.case.now
         top.now.base.now.from top.now.base.now.given.now reached.bound) }
-    ensures made { IfOk result (λ r. r.bound < top.now.total → AreDone W.contents
-        top.now.base.now.case.now top.now.base.now.from top.now.base.now.given.now
-        rounds meter.old meter.new log.old log.new) }
     ensures counted { meter.new ≤ meter.old + extensions_in top.now.base.now.case.now rounds }
     ensures fits { FitsBound top.now.base.now.case.now workspace.new }
 {

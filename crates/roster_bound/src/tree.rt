@@ -1,11 +1,12 @@
 //! A lower bound for all rosters as the least over the nodes of a branching tree.
 
-ghost use Rattle.std.specs.Prelude.{◌≡◌, ◌+◌, ◌*◌, ◌<◌, ◌≤◌, IfNone, IfOk, length};
+ghost use Rattle.std.specs.Prelude.{◌≡◌, ◌+◌, ◌*◌, ◌<◌, ◌≤◌, IfNone, IfOk, false, length, vec_capacity, vec_len};
 ghost use Rattle.roster_bundle.specs.Limits.{greatest_u64};
 ghost use Rattle.roster_instance.specs.Meaning.{nurse_count};
 ghost use Rattle.roster_laws.specs.Greatest.{extensions_in, greatest_extension_count};
 ghost use Rattle.roster_bound.specs.BoundLogs.{node_rounds};
-ghost use Rattle.roster_bound.specs.Branching.{AreNodesOf};
+ghost use Rattle.roster_bound.specs.NodeCapacity.{nodes_capacity};
+ghost use Rattle.roster_bound.specs.Branching.{AreNodesOf, IsBoundByPrices, IsPriced};
 ghost use Rattle.roster_prices.specs.Nodes.{IsLowerBoundIn};
 ghost use Rattle.roster_prices.specs.Workspaces.{FitsBound};
 
@@ -44,7 +45,9 @@ impl<T: SearchesRows> BoundSpace<T> {
     ///
     /// An allocation was refused.
     pub fn for_case(alloc: Global, case: &Case, nodes: u16) -> Result<BoundSpace<T>, BestFault>
-        ensures { IfOk result (λ space. FitsBound case.now space.bounds) }
+        ensures fits { IfOk result (λ space. FitsBound case.now space.bounds) }
+        ensures nodes { IfOk result (λ space. 0 < nodes → nodes < vec_capacity
+            space.nodes.items) }
     {
         Ok(BoundSpace {
             bounds: BoundWorkspace::for_case(alloc, case)?,
@@ -73,14 +76,12 @@ pub(crate) fn branch_least<T: SearchesRows>(
         ≤ greatest_u64 }
     ensures nodes { AreNodesOf upper.now.base.now.case.now upper.now.base.now.from
         upper.now.base.now.given.now space.new.nodes.items.items }
+    ensures same_nodes { nodes_capacity space.new.nodes ≡ nodes_capacity space.old.nodes }
     ensures fits { FitsBound upper.now.base.now.case.now space.new.bounds }
     ensures grows { meter.old ≤ meter.new }
     ensures counted { meter.new ≤ meter.old + extensions_in upper.now.base.now.case.now
         (2 * node_rounds) }
 {
-    if space.nodes.items.is_empty() {
-        return false;
-    }
     let at = space.nodes.least();
     if let Some(is_branched) = branch_at(upper, at, NODE_ROUNDS, space, meter) {
         return is_branched;
@@ -113,6 +114,9 @@ fn branch_at<T: SearchesRows>(
         upper.now.base.now.given.now space.new.nodes.items.items }
     ensures none { IfNone result (meter.new ≡ meter.old) }
     ensures same { IfNone result (space.new.nodes.items ≡ space.old.nodes.items) }
+    ensures full { result ≡ Some false → vec_capacity space.old.nodes.items ≤ vec_len
+        space.old.nodes.items }
+    ensures same_nodes { nodes_capacity space.new.nodes ≡ nodes_capacity space.old.nodes }
     ensures fits { FitsBound upper.now.base.now.case.now space.new.bounds }
     ensures grows { meter.old ≤ meter.new }
     ensures counted { meter.new ≤ meter.old + extensions_in upper.now.base.now.case.now
@@ -143,6 +147,7 @@ fn raise_at<T: SearchesRows>(
     ensures nodes { AreNodesOf upper.now.base.now.case.now upper.now.base.now.from
         upper.now.base.now.given.now space.new.nodes.items.items }
     ensures count { length space.new.nodes.items.items ≡ length space.old.nodes.items.items }
+    ensures same_nodes { nodes_capacity space.new.nodes ≡ nodes_capacity space.old.nodes }
     ensures fits { FitsBound upper.now.base.now.case.now space.new.bounds }
     ensures grows { meter.old ≤ meter.new }
     ensures counted { meter.new ≤ meter.old + extensions_in upper.now.base.now.case.now
@@ -156,6 +161,7 @@ fn raise_at<T: SearchesRows>(
 }
 
 /// Raises the lower bound of a node by at most this many rounds of searches.
+#[tactic(auto, using(crate::proofs::NodeLaws::raised_priced))]
 fn raise_node<T: SearchesRows>(
     upper: &UpperBound<'_>,
     node: &mut Node,
@@ -166,10 +172,15 @@ fn raise_node<T: SearchesRows>(
     requires fits { FitsBound upper.now.base.now.case.now bounds.old }
     requires below { IsLowerBoundIn upper.now.base.now.case.now upper.now.base.now.from
         upper.now.base.now.given.now node.old.decisions.items node.old.bound }
+    requires priced { IsPriced upper.now.base.now.case.now upper.now.base.now.from
+        upper.now.base.now.given.now node.old }
     requires room { meter.old + extensions_in upper.now.base.now.case.now rounds ≤ greatest_u64 }
     ensures decisions { node.new.decisions ≡ node.old.decisions }
     ensures below { IsLowerBoundIn upper.now.base.now.case.now upper.now.base.now.from
         upper.now.base.now.given.now node.new.decisions.items node.new.bound }
+    ensures priced { IsPriced upper.now.base.now.case.now upper.now.base.now.from
+        upper.now.base.now.given.now node.new }
+    ensures rises { node.old.bound ≤ node.new.bound }
     ensures fits { FitsBound upper.now.base.now.case.now bounds.new }
     ensures grows { meter.old ≤ meter.new }
     ensures counted { meter.new ≤ meter.old + extensions_in upper.now.base.now.case.now rounds }
@@ -201,11 +212,14 @@ fn round_in_node<T: SearchesRows>(
         base.now.case.now ≤ greatest_u64 }
     ensures below { IsLowerBoundIn base.now.case.now base.now.from base.now.given.now node.now
         result }
+    ensures by_prices { IsBoundByPrices base.now.case.now base.now.from base.now.given.now node.now
+        result }
     ensures grows { meter.old ≤ meter.new }
     ensures counted { meter.new ≤ meter.old + nurse_count base.now.case.now
         * greatest_extension_count base.now.case.now }
     ensures fits { FitsBound base.now.case.now workspace.new }
 {
+    workspace.dual_prices.keep_most();
     let terms = Terms {
         case: base.case,
         dual_prices: &workspace.dual_prices,

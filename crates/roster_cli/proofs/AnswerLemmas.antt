@@ -9,7 +9,7 @@ use Rattle.roster_text.specs.declared.fault.TextFault.TheVariants as text
 use Rattle.roster_instance.specs.Bundles.{meaning_of, rows_of}
 use Rattle.roster_instance.specs.Meaning.{Meaning, keeping}
 use Rattle.roster_instance.specs.declared.fault.CaseFault.TheVariants as case
-use Rattle.roster_answers.specs.Answer.{Input, IsKeptAt, IsOutcomeOf, Leaves, LeavesLog, CommandEnd, Output, Report, Reports, SpellsInstance, StopsReading, Untouched, best_report, bound_report, cost_report, improve_report, plain, roster_of}
+use Rattle.roster_answers.specs.Answer.{Input, IsKeptAt, IsOutcomeOf, Leaves, LeavesLog, CommandEnd, Output, Report, Reports, SpellsInstance, StopsReading, Untouched, best_report, cost_report, improve_report, plain, roster_of}
 use Rattle.roster_cli.specs.Answer.{Answers, IsAnswer, IsPlanReport, IsPolishReport, IsReportIn, IsUnread, case_for, keep_of, plan_report, polish_report, searches_for}
 use Rattle.roster_reports.specs.Lines.{Text, sizes_text}
 use Rattle.roster_answers.specs.Lines.{status_of}
@@ -20,14 +20,13 @@ use Rattle.roster_request.specs.declared.request.Command.{Command}
 use Rattle.roster_request.specs.declared.request.Command.TheVariants as command
 use Rattle.roster_instance.specs.Rosters.{Rows, fits_case}
 use Rattle.roster_case.specs.Shown.{weeks_text}
-use Rattle.roster_bound.proofs.BoundLogLaws.{some_log}
 use Rattle.roster_rules.specs.Penalties.{penalty}
 use Rattle.roster_laws.proofs.Frozen.{stays_self}
 use Rattle.roster_costs.specs.Minimums.{missing}
 use Rattle.roster_polish.specs.Plans.{IsPlanned}
 use Rattle.roster_polish.specs.Polished.{first_run}
 use Rattle.roster_polish.proofs.KickLogs.{unkicked, unkicked_text}
-use Rattle.roster_answers.proofs.BoundReports.{of_bounds}
+use Rattle.roster_answers.proofs.BoundReports.{some_report_of_bounds}
 use Rattle.roster_answers.proofs.WhoLemmas.{some_who}
 
 -- ---- statuses
@@ -112,7 +111,7 @@ some_report command.Cost c r = (cost_report c r, refl)
 some_report command.Sizes c r = (plain (sizes_text c), refl)
 some_report (command.Best nurse from keep) c r = (best_report (string_bytes nurse) from c r, refl)
 some_report (command.Improve rounds from keep) c r = (improve_report rounds from c r, refl)
-some_report (command.Bound rounds nodes from keep) c r = let some = some_log c from r (record { rounds = rounds; nodes = nodes }) in (bound_report some.0 c r, of_bounds (record { rounds = rounds; nodes = nodes }) from c r some.0 some.1)
+some_report (command.Bound rounds nodes from keep) c r = some_report_of_bounds (record { rounds = rounds; nodes = nodes }) from c r
 some_report (command.Polish searches seed from alone keep) c r = (kickless from c r, no_kick (searches_for c searches) from alone c r)
 some_report (command.Who day shift skill from) c r = some_who (record { day = string_bytes day; shift = string_bytes shift; skill = option_map string_bytes skill }) from c r
 some_report (command.Plan searches seed from keep) c r = (unplanned from r c r, no_plan (searches_for c searches) from false c r r (λ e. e) (planned_self c from r))

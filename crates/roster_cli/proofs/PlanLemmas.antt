@@ -1,20 +1,22 @@
 -- How `plan` ends: whatever roster its run reached, it is one that a run reaches from the nearest roster that
 -- it found.
-use Rattle.std.proofs.Common.{◌≡◌, ◌≤◌, [], ℕ, Bool, Result, Some, true, refl}
-use Rattle.std.specs.Prelude.{IfErr, OnOk}
-use Rattle.roster_text.specs.Io.{Writes}
+use Rattle.std.proofs.Common.{◌≡◌, ◌*◌, ◌≤◌, [], ◌∷◌, ℕ, Bool, Err, List, Ok, Option, Result, Some, false, true, refl}
+use Rattle.std.specs.Prelude.{IfErr, OnOk, min}
+use Rattle.roster_text.specs.Io.{Watched, Writes}
 use Rattle.roster_rules.specs.HardRules.{hard_faults}
-use Rattle.roster_instance.specs.Meaning.{Meaning}
+use Rattle.roster_rules.specs.declared.fault.HardFault.{HardFault}
+use Rattle.roster_instance.specs.Faults.{first_fault, is_none_of}
+use Rattle.roster_instance.specs.Meaning.{Meaning, day_count}
 use Rattle.roster_instance.specs.Rosters.{Rows, fits_case}
 use Rattle.roster_case.specs.Shown.{weeks_text}
 use Rattle.roster_reports.specs.declared.log_fault.LogFault.{LogFault}
 use Rattle.roster_costs.specs.Irreparable.{irreparable}
 use Rattle.roster_costs.specs.Minimums.{missing}
 use Rattle.roster_polish.specs.Plans.{IsPlanned}
-use Rattle.roster_polish.specs.Polished.{IsPolishing, PolishLogStops, Polishes}
+use Rattle.roster_polish.specs.Polished.{IsPolishing, PolishLogStops, Polishes, most_searches}
 use Rattle.roster_polish.specs.declared.run.Polished.{Polished}
 use Rattle.roster_answers.specs.Answer.{Output, Reports, StopsOutput, Untouched, outcome_of}
-use Rattle.roster_cli.specs.Answer.{IsPlanReport, IsUnfound, plan_report}
+use Rattle.roster_cli.specs.Answer.{HasSearched, IsPlanReport, IsUnfound, plan_report}
 use Rattle.roster_reports.specs.Lines.{Text}
 use Rattle.roster_answers.specs.Lines.{IsFirstBreach}
 use Rattle.roster_answers.specs.declared.fault.Fault.{Fault}
@@ -22,6 +24,36 @@ use Rattle.roster_answers.specs.declared.fault.Fault.TheVariants as fault
 use Rattle.roster_answers.proofs.AnswerLemmas.{written_ends, written_log}
 use Rattle.roster_cli.proofs.AnswerLemmas.{no_plan, planned_self, unplanned}
 use Rattle.roster_cli.proofs.PolishLemmas.{more_kicks}
+
+-- some breach is the first
+none_is_first : (broken : List HardFault) (f : HardFault) → first_fault broken ≡ Some f → is_none_of broken ≡ false
+none_is_first [] f h = absurd (cc)
+none_is_first (x ∷ xs) f h = refl
+
+-- a roster that is reported as not found breaks a hard rule
+pub unfound_after : (c : Meaning) (searches meter : ℕ) (broken : List HardFault) (f : Fault) → IsUnfound c broken f → (is_none_of broken ≡ false → min searches most_searches * day_count c ≤ meter) → HasSearched c searches meter f
+unfound_after c searches meter broken (fault.Text f) h made = tt
+unfound_after c searches meter broken (fault.Case f nurse) h made = tt
+unfound_after c searches meter broken (fault.Hard f d) h made = tt
+unfound_after c searches meter broken (fault.Unfound f d) h made = made (none_is_first broken f h.0)
+unfound_after c searches meter broken (fault.Unknown thing name) h made = tt
+unfound_after c searches meter broken fault.Memory h made = tt
+unfound_after c searches meter broken fault.Workspace h made = tt
+unfound_after c searches meter broken fault.Output h made = tt
+unfound_after c searches meter broken fault.Log h made = tt
+
+-- an output that fails is no such report
+pub written_after : {X W : Type 0} (c : Meaning) (searches meter : ℕ) (contents : W → Option (List ℕ)) (old new : Watched W) (text : Text) (result : Result X Fault) → IfErr result (StopsOutput contents old new text) → IfErr result (HasSearched c searches meter)
+written_after c searches meter contents old new text (Ok x) h = tt
+written_after c searches meter contents old new text (Err (fault.Text f)) h = tt
+written_after c searches meter contents old new text (Err (fault.Case f nurse)) h = tt
+written_after c searches meter contents old new text (Err (fault.Hard f d)) h = tt
+written_after c searches meter contents old new text (Err (fault.Unfound f d)) h = absurd h
+written_after c searches meter contents old new text (Err (fault.Unknown thing name)) h = tt
+written_after c searches meter contents old new text (Err fault.Memory) h = tt
+written_after c searches meter contents old new text (Err fault.Workspace) h = tt
+written_after c searches meter contents old new text (Err fault.Output) h = tt
+written_after c searches meter contents old new text (Err fault.Log) h = tt
 
 module _ (searches from : ℕ) (alone : Bool) (c : Meaning) (r : Rows) {W L : Type 0} (output : Output W) (log : Output L) where
   -- `plan` looks for no roster

@@ -1,17 +1,26 @@
 -- The statuses of faults, and what a run did once its output is flushed.
-use Rattle.std.proofs.Common.{◌≡◌, ◌∙◌, ℕ, [], IfSome, None, Option, if◌then◌else◌, subst, sym}
+use Rattle.std.proofs.Common.{◌≡◌, ◌∙◌, ◌==◌, ◌+◌, ◌<◌, ◌⊎◌, ◌++◌, ◌∷◌, ℕ, zero, suc, false, true≢false, List, [], IfSome, None, Ok, Option, Result, ap, append_assoc, arith, drop, get_or, inl, inr, length, map, refl, subst, sym, take}
 use Rattle.std.specs.Io.KnownBytes.{Appends, Keeps}
 use Rattle.std.proofs.KnownBytes.{Appends-kept}
-use Rattle.std.proofs.lemmas.Bool.{ne_eqb}
+use Rattle.std.proofs.lemmas.List.{map-append, take-append-drop, take_more}
+use Rattle.std.specs.Borrow.{Bor}
+use Rattle.std.specs.Fn.{Mut}
+use Rattle.std.specs.declared.io.Error.{Error}
 use Rattle.roster_text.specs.Io.{Watched}
 use Rattle.roster_text.specs.declared.fault.TextFault.{TextFault}
 use Rattle.roster_text.specs.declared.fault.TextFault.TheVariants as text
 use Rattle.roster_request.specs.declared.request.Command.{Command}
-use Rattle.roster_answers.specs.Answer.{Logged}
-use Rattle.roster_cli.specs.Answer.{IsSilent, ReadsAndAnswers}
+use Rattle.roster_answers.specs.Answer.{Logged, Logs, input_of, output_of}
+use Rattle.roster_request.specs.declared.request.Request.{Request}
+use Rattle.roster_cli.specs.Answer.{IsAnswered, IsSilent, ReadsAndAnswers, StopsRun}
 use Rattle.roster_reports.specs.Lines.{Text}
-use Rattle.roster_answers.specs.Lines.{text_status}
-use Rattle.roster_cli.specs.Start.{ReadsAndSends, given_for}
+use Rattle.roster_answers.specs.Lines.{output_line, text_status}
+use Rattle.roster_cli.specs.Start.{EndsRequest, FailsToSend, IsUnopened, Opens, OpensAll, ReadsAndSends, StopsOver, under_watch}
+
+-- a list that isn't empty has items
+pub some_files : (n : ℕ) → false ≡ (n == 0) → 0 < n
+some_files zero none = absurd (true≢false (sym none))
+some_files (suc n) none = omega arith
 
 pub no_text_fault_is_done : (f : TextFault) → text_status f ≡ 0 → ⊥
 no_text_fault_is_done text.Memory h = cc
@@ -51,17 +60,66 @@ module _ {Out Log : Type 0} (contents : Out → Option Text) (held : Out → Tex
         silent = λ quiet. same ∙ silent quiet;
       }
 
-  -- no file is named
-  pub of_input : (files : ℕ) (input : Option Text) (output output_after : Out) (log log_after : Watched Log) → files ≡ 0
-      → ReadsAndSends contents held logged command input output output_after log log_after
-      → ReadsAndSends contents held logged command (given_for files input) output output_after log log_after
-  of_input files input output output_after log log_after none done =
-      subst (λ n. ReadsAndSends contents held logged command (given_for n input) output output_after log log_after) (sym none) done
+  -- a run stopped
+  pub stops_over : {In : Type 0} (remaining : In → Option Text) (before read : Watched In) (empty taken : Watched Out) (log log_after : Watched Log) (input : In) (output left : Out) (status : ℕ)
+      → StopsRun (input_of remaining before read) (output_of contents empty taken) (output_of logged log log_after) command status → before ≡ under_watch input → empty ≡ under_watch output → left ≡ taken.inner
+      → StopsOver remaining contents logged command input status output left log log_after ⊎ FailsToSend remaining contents logged command input status output left log log_after
+  stops_over remaining before read empty taken log log_after input output left status stops from to is = inl (record {
+    read = read;
+    taken = taken;
+    stops = subst (λ b. StopsRun (input_of remaining b read) (output_of contents (under_watch output) taken) (output_of logged log log_after) command status) from
+        (subst (λ e. StopsRun (input_of remaining before read) (output_of contents e taken) (output_of logged log log_after) command status) to stops);
+    left = is;
+  })
 
-  -- files are named, and what they contain isn't known
-  pub of_files : (files : ℕ) (input joined : Option Text) (output output_after : Out) (log log_after : Watched Log) → (files ≡ 0 → ⊥)
-      → ReadsAndSends contents held logged command joined output output_after log log_after
-      → ReadsAndSends contents held logged command (given_for files input) output output_after log log_after
-  of_files files input joined output output_after log log_after some done =
-      let unknown = subst (λ b. IfSome (if b then input else None) (λ known. done.bytes ≡ known)) (sym (ne_eqb files 0 some)) tt in
-      record { bytes = done.bytes; all = unknown; done = done.done; sent_on = done.sent_on; silent = done.silent }
+  -- it was done, and the flush failed
+  pub fails_to_send : {In : Type 0} (remaining : In → Option Text) (before read : Watched In) (empty taken : Watched Out) (log met : Watched Log) (input : In) (output had left : Out) (log_after : Watched Log) (status : ℕ)
+      → IsAnswered (input_of remaining before read) (output_of contents empty taken) (output_of logged log met) command → before ≡ under_watch input → empty ≡ under_watch output → had ≡ taken.inner
+      → Keeps (contents had) (contents left) → status ≡ 3 → Logs logged met log_after output_line
+      → StopsOver remaining contents logged command input status output left log log_after ⊎ FailsToSend remaining contents logged command input status output left log log_after
+  fails_to_send remaining before read empty taken log met input output had left log_after status done from to is kept three reported = inr (record {
+    read = read;
+    taken = taken;
+    met = met;
+    done = subst (λ b. IsAnswered (input_of remaining b read) (output_of contents (under_watch output) taken) (output_of logged log met) command) from
+        (subst (λ e. IsAnswered (input_of remaining before read) (output_of contents e taken) (output_of logged log met) command) to done);
+    kept = subst (λ o. Keeps (contents o) (contents left)) is kept;
+    status_is = three;
+    reported = reported;
+  })
+
+-- ---- the files
+
+module _ {F File : Type 0} (g : Mut F (Bor Text × Unit {0}) (Result File Error)) where
+  -- one more
+  pub opens_more : (opener : F) (paths : List Text) (files : List File) (next : F) (path : Text) (file : File) (last : F) → OpensAll g opener paths files next → Opens g next path (Ok file) last → OpensAll g opener (paths ++ path ∷ []) (files ++ file ∷ []) last
+  opens_more opener [] [] next path file last all one = (last, subst (λ f. Opens g f path (Ok file) last) all one, refl)
+  opens_more opener [] (x ∷ xs) next path file last all one = absurd all
+  opens_more opener (p ∷ ps) [] next path file last all one = absurd all
+  opens_more opener (p ∷ ps) (x ∷ xs) next path file last all one = (all.0, all.1, opens_more all.0 ps xs next path file last all.2 one)
+
+  -- as many as their names
+  pub opens_count : (opener : F) (paths : List Text) (files : List File) (last : F) → OpensAll g opener paths files last → length files ≡ length paths
+  opens_count opener [] [] last all = refl
+  opens_count opener [] (x ∷ xs) last all = absurd all
+  opens_count opener (p ∷ ps) [] last all = absurd all
+  opens_count opener (p ∷ ps) (x ∷ xs) last all = omega (arith, opens_count all.0 ps xs last all.2)
+
+-- the names up to this one, and those after it
+module _ {A B : Type 0} (f : A → B) (items : List A) (i : ℕ) (x : A) (inside : i < length items) (reads : x ≡ get_or items i x) where
+  pub names_more : map f (take i items) ++ f x ∷ [] ≡ map f (take (i + 1) items)
+  names_more = ap (λ y. map f (take i items) ++ f y ∷ []) reads ∙ sym (map-append f (take i items) (get_or items i x ∷ [])) ∙ sym (ap (map f) (take_more items i x inside))
+
+  pub names_split : map f items ≡ map f (take i items) ++ f x ∷ map f (drop (i + 1) items)
+  names_split =
+      sym (ap (map f) (take-append-drop (i + 1) items)) ∙ map-append f (take (i + 1) items) (drop (i + 1) items) ∙ ap (λ xs. xs ++ map f (drop (i + 1) items)) (sym names_more)
+      ∙ append_assoc (map f (take i items)) (f x ∷ []) (map f (drop (i + 1) items))
+
+-- what is said of the files and of the fault may be less
+module _ {In File Out Log : Type 0} (are less : List File → Type 0) (fails : TextFault → Type 0) (remaining : In → Option Text) (file_remaining : File → Option Text) (contents : Out → Option Text) (held : Out → Text) (logged : Log → Option Text) where
+  pub ends_less : (request : Request) (input : In) (status : ℕ) (output output_after : Out) (log log_after : Watched Log) → ((files : List File) → are files → less files)
+      → EndsRequest are fails remaining file_remaining contents held logged request input status output output_after log log_after
+      → EndsRequest less IsUnopened remaining file_remaining contents held logged request input status output output_after log log_after
+  ends_less request input status output output_after log log_after weaker (inl over) = inl over
+  ends_less request input status output output_after log log_after weaker (inr (some, inl p)) = inr (some, inl (record { files = p.files; files_are = weaker p.files p.files_are; ends = p.ends }))
+  ends_less request input status output output_after log log_after weaker (inr (some, inr p)) = inr (some, inr (record { fault = p.fault; failed = p.is; is = p.is; status_is = p.status_is; same = p.same; reported = p.reported }))

@@ -1,5 +1,5 @@
 -- What a run answers.
-use Rattle.std.specs.Prelude.{◌≡◌, ℕ, ◌*◌, ◌<◌, ◌⊎◌, max, min, Bool, true, false, List, [], IfSome, Option, None, Some, length, option_map, string_bytes}
+use Rattle.std.specs.Prelude.{◌≡◌, ℕ, ◌*◌, ◌<◌, ◌≤◌, ◌⊎◌, max, min, Bool, true, false, List, [], IfSome, Option, None, Some, length, option_map, string_bytes}
 use Rattle.roster_text.specs.Io.{Watched, one_more}
 use Rattle.roster_bundle.specs.Limits.{most_bytes}
 use Rattle.roster_bundle.specs.declared.bundle.Bundle.{Bundle}
@@ -7,7 +7,7 @@ use Rattle.roster_text.specs.declared.fault.TextFault.TheVariants as text
 use Rattle.roster_instance.specs.Bundles.{meaning_of}
 use Rattle.roster_rules.specs.HardRules.{hard_faults}
 use Rattle.roster_instance.specs.Limits.{most_keep}
-use Rattle.roster_instance.specs.Meaning.{Meaning, keeping, nurse_count}
+use Rattle.roster_instance.specs.Meaning.{Meaning, day_count, keeping, nurse_count}
 use Rattle.roster_rules.specs.Penalties.{penalty}
 use Rattle.roster_instance.specs.Rosters.{Rows, fits_case}
 use Rattle.roster_case.specs.Shown.{weeks_text}
@@ -16,7 +16,7 @@ use Rattle.roster_rounds.specs.PutIn.{IsAccepted}
 use Rattle.roster_costs.specs.Irreparable.{irreparable}
 use Rattle.roster_costs.specs.Minimums.{missing}
 use Rattle.roster_polish.specs.Plans.{IsPlanned}
-use Rattle.roster_polish.specs.Polished.{IsPolishing}
+use Rattle.roster_polish.specs.Polished.{IsPolishing, most_searches}
 use Rattle.roster_polish.specs.declared.run.Course.{Course}
 use Rattle.roster_reports.specs.Lines.{Text, sizes_text}
 use Rattle.roster_answers.specs.Lines.{IsFirstBreach, output_line, status_of}
@@ -133,6 +133,12 @@ abbrev pub IsUnfound : Meaning → List HardFault → Fault → Type 0
 IsUnfound c broken fault.Memory = broken ≡ []
 IsUnfound c broken (fault.Unfound f d) = IsFirstBreach c broken (fault.Hard f d)
 IsUnfound c broken _ = ⊥
+
+-- a plan that has found no roster has made all searches that were asked for, up to the greatest number of
+-- them: each counted at least one extension for each day
+abbrev pub HasSearched : Meaning → (searches meter : ℕ) → Fault → Type 0
+HasSearched c searches meter (fault.Unfound f d) = min searches most_searches * day_count c ≤ meter
+HasSearched c searches meter _ = Unit {0}
 
 -- ---- a bundle: the same, and why it is refused
 

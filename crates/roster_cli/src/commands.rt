@@ -16,6 +16,7 @@ use roster_instance::Case;
 use roster_partial::RowSearcher;
 use roster_polish::Course;
 use roster_request::Command;
+use roster_state::Meter;
 use roster_text::Watch;
 use std::alloc::Global;
 use std::io::Write;
@@ -25,7 +26,7 @@ use std::io::Write;
 pub(crate) fn report<'a, Out: Write, Log: Write>(
     alloc: Global,
     command: &'a Command,
-    instance: Instance,
+    mut instance: Instance,
     output: &mut Watch<Out>,
     log: &mut Watch<Log>,
 ) -> Result<(), Fault<'a>>
@@ -89,7 +90,8 @@ pub(crate) fn report<'a, Out: Write, Log: Write>(
                 from: *from,
                 kicks_alone: false,
             };
-            report_plan(alloc, &course, instance, output, log)
+            let mut meter = Meter::new(&mut instance.case);
+            report_plan(alloc, &course, instance, &mut meter, output, log)
         }
         Command::Who {
             day,

@@ -5,8 +5,9 @@
 //! defines how words are answered. `run` promises the answer from end to end: with status 0 the input spells
 //! a bundle, and output and log are those of the command's report of what that bundle means; with another
 //! status, there is the fault and its line. `answer_words` promises that words that are no request are
-//! reported as such, and that with status 0 the request is done and the output holds nothing back. `refuse`
-//! promises the line and the status of a fault outside of `run`.
+//! reported as such, and that a request is answered over its files, or over the input, as `run` says; with
+//! status 0 the output holds nothing back. `answer_command_line` promises this of the words that the system
+//! gives. `refuse` promises the line and the status of a fault outside of `run`.
 #![tactic(auto)]
 
 mod answer;

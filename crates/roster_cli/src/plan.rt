@@ -3,7 +3,7 @@
 ghost use Rattle.std.specs.Prelude.{◌≡◌, [], IfOk, IfErr, OnOk};
 ghost use Rattle.roster_rules.specs.HardRules.{hard_faults};
 ghost use Rattle.roster_answers.specs.Answer.{Reports, outcome_of, output_of};
-ghost use Rattle.roster_cli.specs.Answer.{IsPlanFor, IsUnfound};
+ghost use Rattle.roster_cli.specs.Answer.{HasSearched, IsPlanFor, IsUnfound};
 
 use crate::polish::within_capacity;
 use roster_answers::{Fault, Instance, hold, show_weeks};
@@ -18,36 +18,40 @@ use std::alloc::Global;
 use std::io::Write;
 
 /// Writes the weeks of an instance after a run that looks for a roster that keeps the hard rules, and then
-/// polishes it. The run's log goes to the log first.
+/// polishes it. The run's log goes to the log first. The meter is a new one.
 pub(crate) fn report_plan<'a, Out: Write, Log: Write>(
     alloc: Global,
     course: &Course,
     mut instance: Instance,
+    meter: &mut Meter,
     output: &mut Watch<Out>,
     log: &mut Watch<Log>,
 ) -> Result<(), Fault<'a>>
-    ensures { Reports (output_of Out.contents output.old output.new)
+    requires { meter.old ≡ 0 }
+    ensures reports { Reports (output_of Out.contents output.old output.new)
         (output_of Log.contents log.old log.new)
         (IsPlanFor course.now instance) instance.case (outcome_of result) }
+
+    // No roster is reported as not found before all searches were made.
+    ensures made { IfErr result (HasSearched instance.case course.now.searches meter.new) }
 {
     if let Some(fault) = first_irreparable(&instance.case, &instance.roster, course.from) {
         return Err(Fault::Hard(fault, instance.into_case()));
     }
     let Instance { case, roster } = &mut instance;
-    let mut meter = Meter::new(case);
     let Ok(mut space) = PolishSpace::<RowSearcher>::for_roster(alloc, case, roster) else {
         return Err(Fault::Workspace);
     };
     let course = within_capacity(course);
     searches_fit_meter(case, course.searches);
     let start = missing(case, roster);
-    let left = find_roster(case, roster, &course, &mut space, &mut meter);
+    let left = find_roster(case, roster, &course, &mut space, meter);
     let mut held = hold_found(alloc, instance)?;
     let course = Course {
         searches: left,
         ..course
     };
-    match polish_found(&mut held, &course, start, &mut space, &mut meter, log) {
+    match polish_found(&mut held, &course, start, &mut space, meter, log) {
         Ok(_) => show_weeks(held.case(), held.roster(), output),
         Err(LogFault::LogFailed { .. }) => Err(Fault::Log),
     }

@@ -1,10 +1,10 @@
 //! The program from its words and streams to its status.
 
-ghost use Rattle.std.specs.Prelude.{◌≡◌, [], codes, map, string_bytes};
+ghost use Rattle.std.specs.Prelude.{◌≡◌, [], IfErr, IfOk, codes, map, string_bytes};
 ghost use Rattle.std.specs.Io.KnownBytes.{Keeps};
 ghost use Rattle.std.specs.Io.Buffered.{writer_buffer, writer_contents};
 ghost use Rattle.roster_answers.specs.Answer.{Logs};
-ghost use Rattle.roster_cli.specs.Start.{AnswersWords, ReadsAndSends, SendsText, PrintsWords, given_to};
+ghost use Rattle.roster_cli.specs.Start.{AnswersCommandLine, AnswersGiven, AnswersWords, AreUnread, AreWordsOf, EndsOver, FailsToOpenAll, IsUnopened, OpensAll, OpensAndEnds, PrintsWords, SendsText};
 
 use crate::answer::run;
 use roster_answers::{refuse, refuse_output};
@@ -12,6 +12,7 @@ use roster_input::Joined;
 use roster_request::{CliFault, Request, request_of};
 use roster_text::{TextFault, Watch, write_bytes};
 use std::alloc::Global;
+use std::env::Args;
 use std::io::{BufWriter, ErrorKind, Read, Write};
 use std::rt::{Env, Files};
 use std::{env, fs, io};
@@ -19,23 +20,45 @@ use std::{env, fs, io};
 const WORDS_ARE_NO_TEXT: &str = "error: a word of the command line is not UTF-8\n";
 
 /// Answers the command line of a program: reads the files that it names, or `input` if it names none, writes
-/// to `output`, and answers the status and the output.
+/// to `output`, and answers the status and the output. What the words are, and what the files contain, no
+/// clause can say.
 pub fn answer_command_line<
     R: Env + Files + AllocGlobal,
     In: Read + Drop,
     Out: Write + Drop,
     Log: Write,
->(rt: &R, input: In, output: BufWriter<Out>, log: &mut Watch<Log>) -> (u8, BufWriter<Out>) {
-    match words_of(rt) {
+>(rt: &R, input: In, output: BufWriter<Out>, log: &mut Watch<Log>) -> (u8, BufWriter<Out>)
+    ensures answers { AnswersCommandLine WORDS_ARE_NO_TEXT.now In.remaining R.File.remaining
+        (writer_contents Out.contents) writer_buffer Log.contents input result.0 output result.1
+        log.old log.new }
+{
+    answer_given(rt, env::args(rt), input, output, log)
+}
+
+/// The same, with what the system gave for the words.
+fn answer_given<R: Files + AllocGlobal, In: Read + Drop, Out: Write + Drop, Log: Write>(
+    rt: &R,
+    given: io::Result<Args>,
+    input: In,
+    output: BufWriter<Out>,
+    log: &mut Watch<Log>,
+) -> (u8, BufWriter<Out>)
+    ensures answers { AnswersGiven WORDS_ARE_NO_TEXT.now In.remaining R.File.remaining
+        (writer_contents Out.contents) writer_buffer Log.contents given input result.0 output
+        result.1 log.old log.new }
+{
+    match words_of(rt.alloc(), given) {
         Ok(words) => answer_words(rt, &words, input, output, log),
         Err(fault) => refuse_words(fault, output, log),
     }
 }
 
-/// The words of the command line.
-fn words_of(rt: &(impl Env + AllocGlobal)) -> Result<Vec<String>, CliFault> {
-    let alloc = rt.alloc();
-    let given = match env::args(rt) {
+/// The words of the command line, in their order.
+fn words_of(alloc: Global, given: io::Result<Args>) -> Result<Vec<String>, CliFault>
+    ensures words { IfOk result (λ words. AreWordsOf given (map string_bytes words.items)) }
+    ensures unread { IfErr result (AreUnread WORDS_ARE_NO_TEXT.now given) }
+{
+    let given = match given {
         Ok(given) => given,
         Err(error) if error.kind() == ErrorKind::OutOfMemory => return Err(CliFault::Memory),
         Err(_) => return Err(CliFault::Usage(String::from_str(alloc, WORDS_ARE_NO_TEXT)?)),
@@ -55,11 +78,16 @@ pub fn answer_words<R: Files + AllocGlobal, In: Read + Drop, Out: Write + Drop, 
     output: BufWriter<Out>,
     log: &mut Watch<Log>,
 ) -> (u8, BufWriter<Out>)
-    ensures answers { AnswersWords (writer_contents Out.contents) writer_buffer Log.contents
-        (map string_bytes words.now) (In.remaining input) result.0 output result.1 log.old log.new }
+    ensures answers { AnswersWords In.remaining R.File.remaining (writer_contents Out.contents)
+        writer_buffer Log.contents (map string_bytes words.now) input result.0 output result.1
+        log.old log.new }
 {
-    match request_of(rt.alloc(), words) {
-        Ok(request) => answer_request(rt, &request, input, output, log),
+    let alloc = rt.alloc();
+    match request_of(alloc, words) {
+        Ok(request) => {
+            let mut opener = |path: &str| fs::open(rt, path);
+            answer_request(alloc, &request, &mut opener, input, output, log)
+        }
         Err(fault) => refuse_words(fault, output, log),
     }
 }
@@ -98,40 +126,51 @@ fn help<Out: Write + Drop, Log: Write>(
     }
 }
 
-/// Answers a request over the files that it names, or over `input` if it names none.
-#[tactic(auto, using(crate::proofs::StartLemmas::no_text_fault_is_done, crate::proofs::StartLemmas::of_input))]
-fn answer_request<R: Files + AllocGlobal, In: Read + Drop, Out: Write + Drop, Log: Write>(
-    rt: &R,
+/// Answers a request over the files that it names, each opened by one call, or over `input` if it names none.
+fn answer_request<
+    File: Read + Drop,
+    F: FnMut(&str) -> io::Result<File>,
+    In: Read + Drop,
+    Out: Write + Drop,
+    Log: Write,
+>(
+    alloc: Global,
     request: &Request,
+    opener: &mut F,
     input: In,
     output: BufWriter<Out>,
     log: &mut Watch<Log>,
 ) -> (u8, BufWriter<Out>)
-    ensures done { result.0 ≡ 0 → ReadsAndSends (writer_contents Out.contents) writer_buffer
-        Log.contents request.now.command (given_to request.now (In.remaining input)) output result.1
-        log.old log.new }
+    requires { F.IsAlwaysCallable opener.old }
+    ensures { OpensAndEnds F.FnMut opener.old opener.new In.remaining File.remaining
+        (writer_contents Out.contents) writer_buffer Log.contents request.now input result.0 output
+        result.1 log.old log.new }
 {
-    let alloc = rt.alloc();
     if request.files.is_empty() {
         return run_and_flush(alloc, request, input, output, log);
     }
-    match open_all(alloc, &request.files, |path| fs::open(rt, path)) {
+    match open_all(alloc, &request.files, opener) {
         Ok(files) => run_and_flush(alloc, request, Joined::new(files), output, log),
         Err(fault) => (refuse(fault, log), output),
     }
 }
 
-/// Opens files in order.
-fn open_all<T: Drop, F: Fn(&str) -> io::Result<T>>(
+/// Opens files in order, each by one call, up to the first that can't be opened.
+fn open_all<File: Drop, F: FnMut(&str) -> io::Result<File>>(
     alloc: Global,
     paths: &[String],
-    open_file: F,
-) -> Result<Vec<T>, TextFault>
-    requires { F.IsAlwaysCallable open_file }
+    opener: &mut F,
+) -> Result<Vec<File>, TextFault>
+    requires { F.IsAlwaysCallable opener.old }
+    ensures opened { IfOk result (λ files. OpensAll F.FnMut opener.old (map string_bytes paths.now)
+        files.items opener.new) }
+    ensures failed { IfErr result (FailsToOpenAll F.FnMut opener.old (map string_bytes paths.now)
+        opener.new) }
+    ensures unopened { IfErr result IsUnopened }
 {
     let mut files = Vec::with_capacity(alloc, paths.len())?;
     for path in paths {
-        match open_file(path.as_str()) {
+        match opener(path.as_str()) {
             Ok(file) => files.push(file)?,
             Err(error) if error.kind() == ErrorKind::OutOfMemory => return Err(TextFault::Memory),
             Err(_) => return Err(TextFault::ReadFailed),
@@ -148,8 +187,8 @@ fn run_and_flush<In: Read + Drop, Out: Write + Drop, Log: Write>(
     output: BufWriter<Out>,
     log: &mut Watch<Log>,
 ) -> (u8, BufWriter<Out>)
-    ensures done { result.0 ≡ 0 → ReadsAndSends (writer_contents Out.contents) writer_buffer
-        Log.contents request.now.command (In.remaining input) output result.1 log.old log.new }
+    ensures { EndsOver In.remaining (writer_contents Out.contents) writer_buffer Log.contents
+        request.now.command input result.0 output result.1 log.old log.new }
 {
     let mut input = Watch::new(input);
     let mut watched = Watch::new(output);

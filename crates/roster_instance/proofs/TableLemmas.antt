@@ -8,22 +8,25 @@ use Rattle.std.proofs.lemmas.List.{ext_get_or, get_or-set_other, get_or-set_same
 use Rattle.std.proofs.lemmas.List.FromFn.{get_or-map-range_with_len, length-map-range_with_len}
 use Rattle.std.proofs.lemmas.List.Folds.{find-append}
 use Rattle.std.proofs.lemmas.Bool.{and_right, cases_eq, eq-eqb, ne_eqb}
-use Rattle.std.proofs.lemmas.Bool.Decides.{eqb_tells}
 use Rattle.roster_instance.specs.Tables.{is_at, item_at, table_of}
 
 -- ---- indices
 
+-- two numbers are equal, or they aren't
+is_equal : (p q : ℕ) → (((p == q) ≡ true) × (p ≡ q)) ⊎ (((p == q) ≡ false) × (p ≢ q))
+is_equal p q = ⊎_elim (λ e. inl (eq-eqb p q e, e)) (λ other. inr (ne_eqb p q other, other)) (cases_eq p q)
+
 -- an index equals itself
 pub is_at-same : (p : ℕ) → is_at p (Some p) ≡ true
-is_at-same p = ⊎_elim (λ h. h.0) (λ h. absurd (h.1 refl)) (eqb_tells p p)
+is_at-same p = ⊎_elim (λ h. h.0) (λ h. absurd (h.1 refl)) (is_equal p p)
 
 pub is_at-other : (p q : ℕ) → p ≢ q → is_at p (Some q) ≡ false
-is_at-other p q other = ⊎_elim (λ h. absurd (other (sym h.1))) (λ h. h.0) (eqb_tells q p)
+is_at-other p q other = ⊎_elim (λ h. absurd (other (sym h.1))) (λ h. h.0) (is_equal q p)
 
 -- the index of a nurse and weekday
 pub at_day : (a b w : ℕ) (o : Option ℕ) → b < 7 → w < 7 → is_at (7 * a + b) (option_map (λ n. 7 * n + w) o) ≡ (is_at a o && (b == w))
 at_day a b w None b_in w_in = refl
-at_day a b w (Some n) b_in w_in = go (eqb_tells n a) (eqb_tells b w)
+at_day a b w (Some n) b_in w_in = go (is_equal n a) (is_equal b w)
   where
     go : (((n == a) ≡ true) × (n ≡ a)) ⊎ (((n == a) ≡ false) × (n ≢ a)) → (((b == w) ≡ true) × (b ≡ w)) ⊎ (((b == w) ≡ false) × (b ≢ w)) → (7 * n + w == 7 * a + b) ≡ ((n == a) && (b == w))
     go (inl x) (inl y) = eq-eqb (7 * n + w) (7 * a + b) (omega (arith, x.1, y.1)) ∙ sym (rw (x.0, y.0) refl)
@@ -34,7 +37,7 @@ at_day a b w (Some n) b_in w_in = go (eqb_tells n a) (eqb_tells b w)
 pub at_skill : (a b : ℕ) (o u : Option ℕ) → b < 8 → IfSome u (λ k. k < 8) → is_at (8 * a + b) (option_and_then (λ s. option_map (λ k. 8 * s + k) u) o) ≡ (is_at a o && is_at b u)
 at_skill a b None u b_in u_in = refl
 at_skill a b (Some s) None b_in u_in = sym (and_right (s == a) false refl)
-at_skill a b (Some s) (Some k) b_in k_in = go (eqb_tells s a) (eqb_tells k b)
+at_skill a b (Some s) (Some k) b_in k_in = go (is_equal s a) (is_equal k b)
   where
     go : (((s == a) ≡ true) × (s ≡ a)) ⊎ (((s == a) ≡ false) × (s ≢ a)) → (((k == b) ≡ true) × (k ≡ b)) ⊎ (((k == b) ≡ false) × (k ≢ b)) → (8 * s + k == 8 * a + b) ≡ ((s == a) && (k == b))
     go (inl x) (inl y) = eq-eqb (8 * s + k) (8 * a + b) (omega (arith, x.1, y.1)) ∙ sym (rw (x.0, y.0) refl)

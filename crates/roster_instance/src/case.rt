@@ -27,7 +27,7 @@ use crate::sizes::{contract_of, greatest_cap, state_count};
 use crate::table::Table;
 use crate::week::{Week, weeks_of};
 use roster_bundle::{Bundle, Nurse};
-use std::alloc::{AllocError, Global};
+use std::alloc::{AllocError, AllocFailed, Global};
 use std::marker::Model;
 
 /// The most states in the search for a nurse.
@@ -110,15 +110,23 @@ impl Case {
     ///
     /// # Errors
     ///
-    /// An allocation was refused.
-    pub fn keeping(self, alloc: Global, roster: &Roster, keep: u16) -> Result<Case, AllocError>
+    /// An allocation was refused. The case is handed back unchanged.
+    pub fn keeping(
+        self,
+        alloc: Global,
+        roster: &Roster,
+        keep: u16,
+    ) -> Result<Case, AllocFailed<Case>>
         requires { keep ≤ most_keep }
-        ensures { IfOk result (λ case. case ≡ keeping self roster.now keep) }
+        ensures kept { IfOk result (λ case. case ≡ keeping self roster.now keep) }
+        ensures refused { IfErr result (λ failed. failed.value ≡ self) }
     {
         if keep == 0 {
             return Ok(self);
         }
-        let base = roster.copy(alloc)?;
+        let Ok(base) = roster.copy(alloc) else {
+            return Err(AllocFailed { value: self });
+        };
         let mut case = self;
         case.base = base;
         case.keep = keep;

@@ -28,6 +28,11 @@ PointersSet first end others more pointer labels old new =
     (i : ℕ) → first ≤ i → i < end → slice_index_or new i 0
     ≡ pointer_by (slice_index_or labels i 0) (raised others more i) (slice_index_or old i 0) pointer
 
+-- from index first up to end nothing has changed
+abbrev pub SameInside : (first end : ℕ) (old new : List ℕ) → Type 0
+SameInside first end old new =
+    (i : ℕ) → first ≤ i → i < end → slice_index_or new i 0 ≡ slice_index_or old i 0
+
 -- outside these indices nothing has changed
 pub record SameOutside (first end : ℕ) (old new : List ℕ) : Type 0 where
   pub before : (i : ℕ) → i < first → slice_index_or new i 0 ≡ slice_index_or old i 0

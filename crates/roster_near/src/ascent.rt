@@ -40,7 +40,7 @@ const FULL_SHARE: u32 = 64;
 /// How far an ascent has come: its best value so far, how many rounds in succession gained little, the pace
 /// of its steps, and the share of the best prices in the next ones.
 #[derive(Clone, Copy)]
-pub(crate) struct Climb {
+pub(crate) struct Ascent {
     pub(crate) best: i64,
     poor: u32,
     pace: u32,
@@ -54,10 +54,10 @@ pub(crate) struct Round {
     news: u32,
 }
 
-impl Climb {
+impl Ascent {
     /// Before the first round.
-    fn begin() -> Climb {
-        Climb {
+    fn begin() -> Ascent {
+        Ascent {
             best: i64::MIN,
             poor: 0,
             pace: FULL_PACE,
@@ -106,21 +106,21 @@ pub(crate) fn ascend<T: SearchesRows>(
         meter.new budget.new.left }
     ensures days { prices.new.days ≡ day_count task.now.base.now.case.now }
 {
-    let mut climb = Climb::begin();
+    let mut reached = Ascent::begin();
     'rounds: for rounds_before in 0..MOST_ROUNDS {
         let Some(round) = search_round(task, near, bounds, prices, budget, meter) else {
             return None;
         };
-        if climb.record(round) {
+        if reached.record(round) {
             near.prices.keep_best();
         }
-        let is_proved = climb.best > near.found.target();
-        if is_proved || climb.is_done(round, rounds_before == 0) {
-            return Some(climb.best);
+        let is_proved = reached.best > near.found.target();
+        if is_proved || reached.is_done(round, rounds_before == 0) {
+            return Some(reached.best);
         }
-        near.step_over_hand(&mut climb);
+        near.step_over_hand(&mut reached);
     }
-    Some(climb.best)
+    Some(reached.best)
 }
 
 /// Searches each free nurse's cheapest row by the prices at hand, and considers these rows together. Returns
@@ -190,7 +190,7 @@ fn search_nurse<T: SearchesRows>(
 }
 
 impl NearSpace {
-    /// Sets the dual prices of all slots of the case to those at hand, rounded to what searches tell apart.
+    /// Sets the dual prices of all slots of the case to those at hand, rounded to what searches distinguish.
     pub(crate) fn set_prices(&mut self, task: &Task<'_>, prices: &mut DualPrices)
         requires { prices.old.days ≡ day_count task.now.base.now.case.now }
         ensures days { prices.new.days ≡ day_count task.now.base.now.case.now }
@@ -220,11 +220,11 @@ impl NearSpace {
 
     /// Makes steps from the best prices over the rows at hand. The prices at hand are then between the best
     /// ones and those of the best value of these steps.
-    fn step_over_hand(&mut self, climb: &mut Climb) {
+    fn step_over_hand(&mut self, reached: &mut Ascent) {
         self.prices.take_best();
         self.prices.set_earned(&self.problem);
         self.prices.begin_steps();
-        let mut pace = Pace::begin(climb.pace);
+        let mut pace = Pace::begin(reached.pace);
         for _step in 0..MOST_STEPS {
             self.work.make_step();
             let value = self.value_hand();
@@ -237,8 +237,8 @@ impl NearSpace {
             }
         }
         self.prices.take_top();
-        climb.pace = pace.quicker();
-        self.prices.take_between(climb.share);
+        reached.pace = pace.quicker();
+        self.prices.take_between(reached.share);
     }
 
     /// Makes a step that is to raise the value to a point above the goal. Returns false if no price moves.

@@ -34,8 +34,8 @@
 //!    together.
 //! 4. The next prices are a quarter of the best ones and three quarters of those of the best v. That quarter
 //!    is halved in a round that found no new row.
-//! 5. It ends if L is above the target, after six rounds in succession that gained less than a quarter of a
-//!    point, or if no row was new and two rounds were poor.
+//! 5. It ends if L is above the target, or after six rounds in succession that gained less than a quarter of
+//!    a point, or after two of these in succession if no row of the last one was new.
 //!
 //! **Lists** (`lists`). What is left between L and the target is the *gap*. A row whose reduced cost is above
 //! its nurse's least by more than the gap is in no cheaper roster. All others are listed, depth first, by the

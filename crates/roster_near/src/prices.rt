@@ -81,7 +81,7 @@ impl Prices {
         }
     }
 
-    /// Rounds the prices at hand down to whole parts of a point, which a search at this scale can tell apart.
+    /// Rounds the prices at hand down to whole parts of a point, as a search at this scale counts.
     pub(crate) fn round_to(&mut self, scale: u32) {
         let part = (FINE_PER_POINT / scale.max(1)).max(1);
         for at in 0..self.at_hand.len() {

@@ -23,7 +23,7 @@ use Rattle.roster_instance.specs.Rosters.{Rows, choice_on, fits_case, is_choice_
 use Rattle.roster_instance.specs.Sizes.{choice_count}
 use Rattle.roster_instance.specs.Small.{HasSmallNumbers}
 use Rattle.roster_rules.specs.Weights.{staffing_weight}
-use Rattle.roster_rules.proofs.Bounds.{request_on-within}
+use Rattle.roster_rules.proofs.Bounds.{request_on-unkept, request_on-within}
 use Rattle.roster_instance.proofs.RosterFacts.{has_row, row-length, row_fits}
 use Rattle.roster_rules.proofs.RunBounds.{sum_within}
 use Rattle.roster_laws.specs.OneRow.{is_offered, is_open, is_open_row, others, price}
@@ -35,7 +35,7 @@ use Rattle.roster_laws.proofs.AllRows.{count-below, count-choices, count-cons, c
 use Rattle.roster_laws.proofs.Frozen.{frozen_is}
 use Rattle.roster_laws.proofs.SameRows.{same_choice_is, same_choice_self}
 use Rattle.roster_offers.specs.Offers.{offer_at, offer_of, offers_by, offers_of, open_offers}
-use Rattle.roster_offers.specs.Lists.{IsOfferOf, most_price}
+use Rattle.roster_offers.specs.Lists.{IsOfferOf, most_price, most_price_unkept}
 
 pub shift_of_case : (c : Meaning) (x : Choice) → is_choice_of c x ≡ true → IfSome (shift_of x) (λ s. s.0 < shift_count c)
 shift_of_case c Off e = tt
@@ -143,6 +143,16 @@ module _ (c : Meaning) (from : ℕ) (r : Rows) (n d : ℕ) where
         All-map (IsOfferOf c) (offer_of c r n d) (filter (is_offered c from r n d) (all_choices c))
         (All-filter (is_offered c from r n d) (λ x. IsOfferOf c (offer_of c r n d x)) (all_choices c)
         (All-weaker (λ x. is_choice_of c x ≡ true) (λ x. IsOfferOf c (offer_of c r n d x)) (λ x e. record { choice = e; price = price_within x }) (all_choices c) (choices_of_case c)))
+
+    -- if no roster is kept, a change costs nothing
+    price_unkept : c.keep ≡ 0 → (x : Choice) → price c r n d x ≤ most_price_unkept
+    price_unkept none x = omega (arith, staffing_within (with_choice (others r n d) x), request_on-unkept c n d (shift_of x) none)
+
+    pub offers_unkept : c.keep ≡ 0 → All (λ x. x.price ≤ most_price_unkept) (offers_of c from r n d)
+    offers_unkept none =
+        All-map (λ y. y.price ≤ most_price_unkept) (offer_of c r n d) (filter (is_offered c from r n d) (all_choices c))
+        (All-filter (is_offered c from r n d) (λ x. price c r n d x ≤ most_price_unkept) (all_choices c)
+        (All-weaker (λ x. is_choice_of c x ≡ true) (λ x. price c r n d x ≤ most_price_unkept) (λ x e. price_unkept none x) (all_choices c) (choices_of_case c)))
 
   module _ (fits : fits_case c r ≡ true) (keeps : keeps_hard c r ≡ true) (inside : n < nurse_count c) (day : d < day_count c) where
     abbrev present : Choice

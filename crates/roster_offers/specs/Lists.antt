@@ -1,7 +1,7 @@
 -- The lists of offers that a search goes over, one for each day, and what it finds.
-use Rattle.std.specs.Prelude.{◌≡◌, ℕ, ◌+◌, ◌*◌, ◌<◌, ◌≤◌, true, All, IfSome, List, [], Some, length, max, slice_index_or}
+use Rattle.std.specs.Prelude.{◌≡◌, ℕ, ◌+◌, ◌-◌, ◌*◌, ◌<◌, ◌≤◌, true, All, IfSome, List, [], Some, length, max, slice_index_or}
 use Rattle.arrayvec.specs.ArrayVec.{ArrayVec}
-use Rattle.roster_instance.specs.Limits.{most_shifts, most_skills, most_small}
+use Rattle.roster_instance.specs.Limits.{most_days, most_keep, most_shifts, most_skills, most_small}
 use Rattle.roster_instance.specs.Meaning.{Meaning, day_count}
 use Rattle.roster_instance.specs.Rosters.{Row, is_choice_of}
 use Rattle.roster_instance.specs.Sizes.{choice_count}
@@ -17,6 +17,10 @@ use Rattle.roster_state.specs.MostCosts.{most_at_end, most_of_transition}
 -- what an offer costs at most: 1,918,200
 abbrev pub most_price : ℕ
 most_price = most_shifts * most_skills * staffing_weight * most_small + most_request
+
+-- the same without a roster that is kept: 1,918,100
+abbrev pub most_price_unkept : ℕ
+most_price_unkept = most_price - most_keep
 
 -- the same where prices are finer than a point, in points: by dual prices at most 200,000, with the nurse's
 -- requests 200,120. The other 380 are for what a branching decision adds.
@@ -78,6 +82,10 @@ no_row = 1073741824
 abbrev pub most_label : ℕ
 most_label = 714740250
 
+-- the same if no roster is kept
+abbrev pub most_label_unkept : ℕ
+most_label_unkept = 714703850
+
 -- the best row over all days of these offers, with its cost
 abbrev pub best_over : Meaning → ℕ → (ℕ → List Offer) → Priced (List Offer)
 best_over c n offers = best_of_offers c n offers (day_count c) 0 (summary_of c n [])
@@ -85,6 +93,17 @@ best_over c n offers = best_of_offers c n offers (day_count c) 0 (summary_of c n
 -- a best row, if there is one, costs no more than a label can, and less than what stands for no row
 abbrev pub HasLowLabel : Priced (List Offer) → Type 0
 HasLowLabel best = IfSome best (λ label. (label.0 ≤ most_label) × (label.0 < no_row))
+
+-- so does each label over these offers, whatever the state
+abbrev pub HaveLowLabels : Meaning → (n : ℕ) → (ℕ → List Offer) → Type 0
+HaveLowLabels c n offers =
+    (m d : ℕ) → m ≤ most_days → (s : Summary) → HasLowLabel (best_of_offers c n offers m d s)
+
+-- and no more than one can if no roster is kept
+abbrev pub HaveUnkeptLabels : Meaning → (n : ℕ) → (ℕ → List Offer) → Type 0
+HaveUnkeptLabels c n offers =
+    (m d : ℕ) → m ≤ most_days → (s : Summary)
+    → IfSome (best_of_offers c n offers m d s) (λ label. label.0 ≤ most_label_unkept)
 
 -- ---- what is found at a scale
 

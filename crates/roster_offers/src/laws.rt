@@ -5,7 +5,7 @@ ghost use Rattle.std.specs.Prelude.{◌≡◌, ◌+◌, ◌<◌, ◌≤◌, ℕ,
 ghost use Rattle.roster_instance.specs.declared.choice.Choice.{Choice};
 ghost use Rattle.roster_rules.specs.AllowedRows.{is_frozen};
 ghost use Rattle.roster_rules.specs.HardRules.{keeps_hard};
-ghost use Rattle.roster_instance.specs.Limits.{most_days, most_shifts, most_skills, most_weeks};
+ghost use Rattle.roster_instance.specs.Limits.{most_shifts, most_skills, most_weeks};
 ghost use Rattle.roster_instance.specs.Meaning.{Meaning, day_count, nurse_count, shift_count, skill_count, week_count};
 ghost use Rattle.roster_rules.specs.Prefix.{Summary};
 ghost use Rattle.roster_instance.specs.Rosters.{Row, Rows, fits_case};
@@ -15,7 +15,7 @@ ghost use Rattle.roster_offers.specs.ByStates.{Transitions, best_from, cheapest_
 ghost use Rattle.roster_offers.specs.Finds.{FindsBestRow, FindsCheapest, FindsCheapestAt, FindsLowCost, OffersThePresent, GivesItsCost, GivesItsCostAt, GivesThePenalty, best_offered, best_offered_at};
 ghost use Rattle.roster_offers.specs.Offers.{IsPlainAtOne, best_by_states, best_of_offers, cheapest_by_shift, offered_rows, offers_of, open_offers, shift_offers};
 ghost use Rattle.roster_offers.specs.Rises.{BestCostRises, DaysHaveRisen};
-ghost use Rattle.roster_offers.specs.Lists.{AllAreOffersOf, HasLowLabel, HaveLowLabelsAt, IsOfferOf, IsScaleOf};
+ghost use Rattle.roster_offers.specs.Lists.{AllAreOffersOf, HaveLowLabels, HaveLowLabelsAt, HaveUnkeptLabels, IsOfferOf, IsScaleOf};
 ghost use Rattle.roster_offers.specs.declared.offer.Offer.{Offer};
 
 /// The first of the cheapest of all rows of the days' offers is what the search from state to state gives,
@@ -69,11 +69,13 @@ pub fn best_row_is_found_by_states()
 {}
 
 /// In a case with small numbers a label, the cost of the best row of some days from a state on, is at most
-/// 714,740,250, below what stands for no row, whatever the state and the offers are.
+/// 714,740,250, below what stands for no row, whatever the state and the offers are. If no roster is kept, it
+/// is at most 714,703,850 over a nurse's offers.
 pub fn labels_are_low()
-    ensures { (c : Meaning) → HasSmallNumbers c → (n : ℕ) (offers : ℕ → List Offer)
-        → AllAreOffersOf c offers → (m d : ℕ) → m ≤ most_days → (s : Summary)
-        → HasLowLabel (best_of_offers c n offers m d s) }
+    ensures all { (c : Meaning) → HasSmallNumbers c → (n : ℕ) (offers : ℕ → List Offer)
+        → AllAreOffersOf c offers → HaveLowLabels c n offers }
+    ensures unkept { (c : Meaning) → IsSmall c → c.keep ≡ 0 → (from : ℕ) (r : Rows) (n : ℕ)
+        → HaveUnkeptLabels c n (shift_offers c from r n) }
 {}
 
 /// The same at a scale, where labels are in parts of a point: from a day of the case on a label is at most

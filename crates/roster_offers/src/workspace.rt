@@ -1,6 +1,6 @@
 //! What a row search promises, and the memory that it works in.
 
-ghost use Rattle.std.specs.Prelude.{◌≡◌, ℕ, ◌+◌, ◌*◌, ◌<◌, ◌≤◌, List, [], ◌∷◌, ◌++◌, true, IfOk, IsSome, length, take};
+ghost use Rattle.std.specs.Prelude.{◌≡◌, ℕ, ◌+◌, ◌*◌, ◌/◌, ◌<◌, ◌≤◌, List, [], ◌∷◌, ◌++◌, true, IfOk, IsSome, length, take};
 ghost use Rattle.roster_bundle.specs.Limits.{greatest_u64};
 ghost use Rattle.roster_instance.specs.Limits.{most_days, most_shifts, most_skills, most_states};
 ghost use Rattle.roster_instance.specs.Meaning.{Meaning, day_count, nurse_count};
@@ -31,8 +31,9 @@ pub trait SearchesRows: Drop {
     /// How many labels and pointers it has, and for how many labels it has capacity without an allocation.
     ghost capacity: { Self → TableCapacity };
 
-    /// Says for what the meter counted, from one number to another, in a search over these offers.
-    ghost IsCounted: { Meaning → ℕ → (ℕ → List Offer) → ℕ → ℕ → Type 0 };
+    /// Says for what the meter counted, from one number to another, in a search over these offers by tables
+    /// that have two labels for each of that many states.
+    ghost IsCounted: { ℕ → Meaning → ℕ → (ℕ → List Offer) → ℕ → ℕ → Type 0 };
 
     /// A search for cases with at most this number of states and of days, by three allocations.
     ///
@@ -75,8 +76,8 @@ pub trait SearchesRows: Drop {
         ensures each_day { meter.old + day_count search.now.case.now ≤ meter.new }
         ensures counted { meter.new ≤ meter.old + extension_count search.now.case.now
             search.now.nurse }
-        ensures are_reachable { IsCounted search.now.case.now search.now.nurse
-            (offers_on search.now.offers.now) meter.old meter.new }
+        ensures are_reachable { IsCounted ((capacity self.old).labels / 2) search.now.case.now
+            search.now.nurse (offers_on search.now.offers.now) meter.old meter.new }
         ensures tables { capacity self.new ≡ capacity self.old };
 
     /// Lists rows over a table of offers that cost at most a limit, in the order of rows, as long as the list
@@ -101,9 +102,9 @@ pub trait SearchesRows: Drop {
         ensures tables { capacity self.new ≡ capacity self.old };
 
     /// What is counted depends on each day's offers alone.
-    ghost counted_same: { (c : Meaning) (n : ℕ) (f g : ℕ → List Offer) →
+    ghost counted_same: { (states : ℕ) (c : Meaning) (n : ℕ) (f g : ℕ → List Offer) →
         ((day : ℕ) → day < day_count c → f day ≡ g day) → (before after : ℕ) →
-        IsCounted c n f before after → IsCounted c n g before after };
+        IsCounted states c n f before after → IsCounted states c n g before after };
 }
 
 /// What a search for a best row writes into. The search's tables and one row grow with the case; the offers
@@ -266,8 +267,8 @@ impl<T: SearchesRows> Workspace<T> {
         // What it takes.
         ensures each_day { meter.old + day_count case.now ≤ meter.new }
         ensures counted { meter.new ≤ meter.old + extension_count case.now nurse }
-        ensures are_reachable { T.IsCounted case.now nurse (offers_on self.old.offers) meter.old
-            meter.new }
+        ensures are_reachable { T.IsCounted (greatest_state_count case.now) case.now nurse
+            (offers_on self.old.offers) meter.old meter.new }
         ensures same_capacity { SameCapacity self.old self.new }
         ensures fits { fits_space case.now self.new ≡ true }
         ensures offers { self.new.offers ≡ self.old.offers }
@@ -294,8 +295,8 @@ impl<T: SearchesRows> Workspace<T> {
         // What it takes.
         ensures each_day { meter.old + day_count case.now ≤ meter.new }
         ensures counted { meter.new ≤ meter.old + extension_count case.now nurse }
-        ensures are_reachable { T.IsCounted case.now nurse (offers_on self.old.offers) meter.old
-            meter.new }
+        ensures are_reachable { T.IsCounted (greatest_state_count case.now) case.now nurse
+            (offers_on self.old.offers) meter.old meter.new }
         ensures same_capacity { SameCapacity self.old self.new }
         ensures fits { fits_space case.now self.new ≡ true }
         ensures offers { self.new.offers ≡ self.old.offers }

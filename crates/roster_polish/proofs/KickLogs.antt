@@ -33,7 +33,7 @@ falls_more : (c : Meaning) (before : KickLine) (xs : List KickLine) (x : KickLin
 falls_more c before [] x falls later less = (later, less, tt)
 falls_more c before (y ∷ xs) x falls later less = (falls.0, falls.1, falls_more c y xs x falls.2 later less)
 
-last_is_least : (c : Meaning) (before : KickLine) (xs : List KickLine) → Falls c before xs → penalty c (last_kick before xs).roster ≤ penalty c before.roster
+pub last_is_least : (c : Meaning) (before : KickLine) (xs : List KickLine) → Falls c before xs → penalty c (last_kick before xs).roster ≤ penalty c before.roster
 last_is_least c before [] falls = omega arith
 last_is_least c before (x ∷ xs) falls = omega (arith, falls.1, last_is_least c x xs falls.2)
 

@@ -7,3 +7,5 @@ pub mod KickLogs
 pub mod Passes
 pub mod PlanRows
 mod Fading
+mod Cheapest
+mod Anew

@@ -1,9 +1,12 @@
 -- A pass: the steps of some nurses in their order.
-use Rattle.std.proofs.Common.{◌≡◌, ◌∙◌, ◌+◌, ◌-◌, ◌*◌, ◌<◌, ◌≤◌, ◌⊎◌, ℕ, zero, suc, Bool, true, false, not, inl, inr, ap, arith, nat_lt, refl, subst, sym}
+use Rattle.std.proofs.Common.{◌≡◌, ◌≢◌, ◌∙◌, ◌+◌, ◌-◌, ◌*◌, ◌<◌, ◌≤◌, ◌⊎◌, ◌++◌, ℕ, zero, suc, Bool, true, false, not, inl, inr, ap, arith, nat_lt, refl, subst, sym, List, [], ◌∷◌}
 use Rattle.std.specs.Prelude.{if◌then◌else◌}
 use Rattle.std.specs.List.{fold, range_with_len}
 use Rattle.std.proofs.lemmas.Bool.{cases_Bool, false_from_ne_true, ltb-false, ltb-true, true≢false}
 use Rattle.std.proofs.lemmas.Nat.{mul-le}
+use Rattle.std.proofs.lemmas.List.Elements.{Contains-append_right}
+use Rattle.std.proofs.lemmas.List.FromFn.{get_or-range_with_len, length-range_with_len}
+use Rattle.std.proofs.lemmas.List.Sums.{fold-append}
 use Rattle.roster_instance.specs.Meaning.{Meaning, nurse_count}
 use Rattle.roster_instance.specs.Rosters.{Rows}
 use Rattle.roster_rules.specs.AllowedRows.{best_row}
@@ -12,9 +15,9 @@ use Rattle.roster_rules.specs.Penalties.{penalty}
 use Rattle.roster_laws.specs.Greatest.{greatest_extension_count}
 use Rattle.roster_laws.proofs.Runs.{run-goes_on, run-settled, run-stopped}
 use Rattle.roster_laws.proofs.SameRows.{same_rows_is, same_rows_of}
-use Rattle.roster_rounds.proofs.RoundSteps.{fold_more}
 use Rattle.roster_polish.specs.declared.descend.Pass.{Pass}
 use Rattle.roster_polish.specs.declared.descend.Pass.TheVariants.{Changed, Stopped, Unchanged}
+use Rattle.roster_polish.specs.Descents.{AreAllNurses, IsPass, LeadTo}
 use Rattle.roster_polish.specs.Polished.{first_searches, descent_rounds, rounds_made, descent_searches}
 use Rattle.roster_laws.specs.Settled.{HasBestRow, settled_at}
 use Rattle.roster_polish.specs.Settled.{Spends, extensions_of}
@@ -23,16 +26,23 @@ use Rattle.roster_polish.proofs.Steps.{both_of, falls_if, has_best, is_same, one
 -- the steps of the nurses from the first to before this one led from one roster to another, and changed it or
 -- not
 pub record PassTo (c : Meaning) (from : ℕ) (old now : Rows) (changed : Bool) (first n : ℕ) : Type 0 where
-  pub steps : first ≡ 0 → now ≡ fold (step c (best_row c from)) old (range_with_len 0 n)
+  pub above : first ≤ n
+  pub steps : LeadTo c from (range_with_len first (n - first)) old now
   pub same : changed ≡ false → now ≡ old
   pub falls : changed ≡ true → penalty c now < penalty c old
   pub no_dearer : penalty c now ≤ penalty c old
   pub best : changed ≡ false → (m : ℕ) → first ≤ m → m < n → HasBestRow c from now m
 
+-- one number more in a row
+range_push : (a n j : ℕ) → a + n ≡ j → range_with_len a (suc n) ≡ range_with_len a n ++ j ∷ []
+range_push a zero j e = let same : a ≡ j = omega (arith, e) in ap (λ k. k ∷ []) same
+range_push a (suc n) j e = ap (λ l. a ∷ l) (range_push (a + 1) n j (omega (arith, e)))
+
 module _ (c : Meaning) (from : ℕ) (old : Rows) (first : ℕ) where
   pub pass_begins : PassTo c from old old false first first
   pass_begins = record {
-    steps = λ none. sym (ap (λ m. fold (step c (best_row c from)) old (range_with_len 0 m)) none);
+    above = omega arith;
+    steps = let none : first - first ≡ 0 = omega arith in sym (ap (λ m. fold (step c (best_row c from)) old (range_with_len first m)) none);
     same = λ e. refl;
     falls = λ e. absurd (true≢false (sym e));
     no_dearer = omega arith;
@@ -44,13 +54,22 @@ module _ (c : Meaning) (from : ℕ) (old : Rows) (first : ℕ) where
 
   module _ (now : Rows) (changed : Bool) (n : ℕ) (p : PassTo c from old now changed first n) where
     module _ (new : Rows) (is : new ≡ step c (best_row c from) now n) (moved : Bool) (moved_is : moved ≡ not (same_rows new now)) where
-      steps_more : first ≡ 0 → new ≡ fold (step c (best_row c from)) old (range_with_len 0 (n + 1))
-      steps_more none = is ∙ ap (λ s. step c (best_row c from) s n) (p.steps none) ∙ sym (fold_more c (best_row c from) old n)
+      steps_more : LeadTo c from (range_with_len first (n + 1 - first)) old new
+      steps_more =
+          let one : n + 1 - first ≡ suc (n - first) = omega (arith, p.above) in
+          let there : first + (n - first) ≡ n = omega (arith, p.above) in
+          is ∙ ap (λ s. step c (best_row c from) s n) p.steps
+          ∙ sym (fold-append (step c (best_row c from)) old (range_with_len first (n - first)) (n ∷ []))
+          ∙ ap (fold (step c (best_row c from)) old) (sym (ap (range_with_len first) one ∙ range_push first (n - first) n there))
+
+      above_more : first ≤ n + 1
+      above_more = omega (arith, p.above)
 
       pub pass_moves : moved ≡ true → PassTo c from old new true first (n + 1)
       pass_moves steps =
           let less : penalty c new < penalty c now = falls_if c from now new n is moved moved_is steps in
           record {
+            above = above_more;
             steps = steps_more;
             same = λ e. absurd (true≢false e);
             falls = λ e. omega (arith, less, p.no_dearer);
@@ -68,6 +87,7 @@ module _ (c : Meaning) (from : ℕ) (old : Rows) (first : ℕ) where
             | inr not_before ↦ (let here : n ≡ m = omega (arith, below, ltb-false m n not_before) in subst (HasBestRow c from new) here last)
           ] in
           record {
+            above = above_more;
             steps = steps_more;
             same = λ e. still ∙ p.same e;
             falls = λ e. omega (arith, ap (penalty c) still, p.falls e);
@@ -79,7 +99,13 @@ module _ (c : Meaning) (from : ℕ) (old : Rows) (first : ℕ) where
 
     pub pass_is_round : first ≡ 0 → n ≡ nurse_count c → now ≡ round c (best_row c from) old
     unfolding round
-    pass_is_round none all = p.steps none ∙ ap (λ m. fold (step c (best_row c from)) old (range_with_len 0 m)) all
+    pass_is_round none all =
+        let count : n - first ≡ nurse_count c = omega (arith, none, all) in
+        p.steps ∙ (λ i. fold (step c (best_row c from)) old (range_with_len (none i) (count i)))
+
+    -- the pass from the first nurse on is of all of them
+    pub is_pass : (end : Pass) → (first ≡ 0 → end ≢ Stopped → n ≡ nurse_count c) → IsPass c from first old now end
+    is_pass end all = record { count = n - first; steps = p.steps; all = λ none going. omega (arith, none, all none going) }
 
     pub pass_differs : changed ≡ true → same_rows now old ≡ false
     pass_differs some = false_from_ne_true (same_rows now old) (λ e. no_less (penalty c now) (penalty c old) (p.falls some) (ap (penalty c) (same_rows_is now old e)))
@@ -89,6 +115,32 @@ module _ (c : Meaning) (from : ℕ) (old : Rows) (first : ℕ) where
 
     pub pass_same : changed ≡ false → same_rows now old ≡ true
     pass_same none = same_rows_of now old (p.same none)
+
+-- ---- passes, one after another
+
+-- the steps of some nurses lead from one roster to another
+pub record StepsTo (c : Meaning) (from : ℕ) (old now : Rows) : Type 0 where
+  pub nurses : List ℕ
+  pub steps : LeadTo c from nurses old now
+
+pub no_steps : (c : Meaning) (from : ℕ) (r : Rows) → StepsTo c from r r
+no_steps c from r = record { nurses = []; steps = refl }
+
+pub lead_then : (c : Meaning) (from : ℕ) (old now new : Rows) (nurses more : List ℕ) → LeadTo c from nurses old now → LeadTo c from more now new → LeadTo c from (nurses ++ more) old new
+lead_then c from old now new nurses more before is = is ∙ ap (λ s. fold (step c (best_row c from)) s more) before ∙ sym (fold-append (step c (best_row c from)) old nurses more)
+
+pub steps_then : (c : Meaning) (from : ℕ) (old now new : Rows) → StepsTo c from old now → (more : List ℕ) → LeadTo c from more now new → StepsTo c from old new
+steps_then c from old now new before more is = record {
+  nurses = before.nurses ++ more;
+  steps = lead_then c from old now new before.nurses more before.steps is;
+}
+
+-- a pass over all nurses has the step of each
+pub all_stepped : (c : Meaning) (before : List ℕ) (first count : ℕ) → first ≡ 0 → count ≡ nurse_count c → AreAllNurses c (before ++ range_with_len first count)
+all_stepped c before first count none all n inside =
+    let within : n < count = omega (arith, inside, all) in
+    let here : first + n ≡ n = omega (arith, none) in
+    Contains-append_right before (range_with_len first count) n (n, omega (arith, within, length-range_with_len first count), get_or-range_with_len first count n n within ∙ here)
 
 -- ---- a round in a run
 

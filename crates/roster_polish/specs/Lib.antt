@@ -5,3 +5,4 @@ pub mod Plans
 pub mod Fades
 pub mod Tries
 pub mod Near
+pub mod Descents

@@ -1,5 +1,5 @@
 -- What a run of a fade and kicks comes to, and what its log says (our own).
-use Rattle.std.specs.Prelude.{◌≡◌, ℕ, zero, suc, ◌+◌, ◌-◌, ◌*◌, ◌⊎◌, ◌<◌, ◌≤◌, All, Bool, true, List, [], ◌∷◌, ◌++◌, codes, decimal, flat_map, if◌then◌else◌, length, map, nat_lt, IfSome, None, Option, Some}
+use Rattle.std.specs.Prelude.{◌≡◌, ℕ, zero, suc, ◌-◌, ◌*◌, ◌<◌, ◌≤◌, All, Bool, true, List, [], ◌∷◌, ◌++◌, codes, decimal, flat_map, if◌then◌else◌, length, map, nat_lt, IfSome, None, Option, Some}
 use Rattle.roster_text.specs.Io.{StopsAt, Watched, Writes, saturated}
 use Rattle.roster_instance.specs.Meaning.{Meaning, day_count, nurse_count}
 use Rattle.roster_instance.specs.Rosters.{Rows, fits_case}
@@ -25,12 +25,6 @@ descent_rounds = 1000000
 -- this is `improve`: surely settled if the given roster costs less than 5 * descent_rounds
 abbrev pub first_run : Meaning → ℕ → Rows → Run
 first_run c from given = run c (best_row c from) descent_rounds given
-
--- why a descent is given up: no search is left, the roster is dearer than is asked, or it was so dear that
--- all rounds may not be enough
-abbrev pub IsGivenUp : Meaning → (aim left : ℕ) → (before after : Rows) → Type 0
-IsGivenUp c aim left before after =
-    (left ≡ 0) ⊎ (aim < penalty c after) ⊎ (descent_rounds ≤ penalty c before + 1)
 
 -- how many rounds a run of at most this many makes: it ends with the first that changes nothing
 unfoldable pub rounds_made : Meaning → ℕ → (rounds : ℕ) → Rows → ℕ
@@ -186,6 +180,14 @@ pub record IsPolishing (c : Meaning) (from : ℕ) (given : Rows) (start kicks : 
   pub is_settled : settled ≡ true → IsSettled c from last
   pub surely : (first_run c from given).is_settled ≡ true → settled ≡ true
   pub text_is : text ≡ kicks_text c start fade lines ++ last_line c settled last
+
+-- the last roster is no dearer than that of any line of the log, from the given one on: it is the cheapest of
+-- them
+abbrev pub EndsCheapest : {c : Meaning} {from start kicks : ℕ} {given last : Rows} {alone settled : Bool}
+    {text : List ℕ} → IsPolishing c from given start kicks alone settled last text → Type 0
+EndsCheapest {c} {from} {start} {kicks} {given} {last} {alone} {settled} {text} run =
+    All (λ entry. penalty c last ≤ penalty c entry.roster)
+    (log_entries c given start run.fade run.lines settled last)
 
 -- the log of a run went out, and the answer is what it came to
 pub record Polishes {W : Type 0} (contents : W → Option (List ℕ)) (c : Meaning) (from : ℕ) (given : Rows)

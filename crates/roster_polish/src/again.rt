@@ -1,6 +1,8 @@
 //! Another fade of a roster, whose result is searched on until that brings nothing more.
 
-ghost use Rattle.std.specs.Prelude.{◌≡◌, true};
+ghost use Rattle.std.specs.Prelude.{◌≡◌, ◌≤◌, true};
+ghost use Rattle.roster_rules.specs.Penalties.{penalty};
+ghost use Rattle.roster_polish.specs.Descents.{IsFadedAnew, IsSearchedOn, StaysIfCheaper};
 ghost use Rattle.roster_polish.specs.Settled.{IsSettled};
 ghost use Rattle.roster_polish.specs.Tries.{CanSearch, GoesOnSettled, StaysNoDearer};
 
@@ -29,6 +31,8 @@ pub(crate) fn try_again<T: SearchesRows>(
     requires able { CanSearch held.old.case kicking.old.searches space.old meter.old }
     ensures tried { StaysNoDearer held.old.case from held.old.roster held.new kicking.old.searches
         kicking.new.searches space.new meter.old meter.new result }
+    ensures decided { StaysIfCheaper held.old.case from kicking.new.searches.left held.old.roster
+        held.new.roster result }
 {
     held.keeps_rules();
     let penalty = held.total();
@@ -54,6 +58,8 @@ fn fade_and_search<T: SearchesRows>(
     requires able { CanSearch held.old.case kicking.old.searches space.old meter.old }
     ensures goes_on { GoesOnSettled held.old.case from held.old.roster held.new
         kicking.old.searches kicking.new.searches space.old space.new meter.old meter.new result }
+    ensures searched { IsSearchedOn held.old.case from kicking.new.searches.left held.old.roster
+        held.new.roster result }
 {
     if !fade_anew(held, from, kicking, space, meter) {
         return false;
@@ -81,6 +87,8 @@ fn fade_anew<T: SearchesRows>(
     requires able { CanSearch held.old.case kicking.old.searches space.old meter.old }
     ensures goes_on { GoesOnSettled held.old.case from held.old.roster held.new
         kicking.old.searches kicking.new.searches space.old space.new meter.old meter.new result }
+    ensures fades { IsFadedAnew held.old.case from kicking.new.searches.left held.old.roster
+        space.new.faded held.new.roster result }
 {
     held.keeps_rules();
     let base = Base::of(held, from);
@@ -117,6 +125,8 @@ fn search_on<T: SearchesRows>(
     requires settled { IsSettled held.old.case from held.old.roster }
     ensures goes_on { GoesOnSettled held.old.case from held.old.roster held.new searches.old
         searches.new space.old space.new meter.old meter.new true }
+    ensures no_dearer { penalty held.old.case held.new.roster ≤ penalty held.old.case
+        held.old.roster }
 {
     let mut since = searches.left;
     for _turn in 0..searches.left {

@@ -10,9 +10,10 @@ ghost use Rattle.roster_laws.specs.FrozenDays.{FrozenDaysStay};
 ghost use Rattle.roster_offers.specs.Workspaces.{fits_space};
 ghost use Rattle.roster_row.specs.Recalled.{RecallsSearches};
 ghost use Rattle.roster_polish.specs.declared.descend.Pass.TheVariants.{Changed, Stopped, Unchanged};
-ghost use Rattle.roster_polish.specs.Polished.{FitsPolish, IsGivenUp, first_run, first_searches, descent_searches};
+ghost use Rattle.roster_polish.specs.Descents.{Descends, IsPass};
+ghost use Rattle.roster_polish.specs.Polished.{FitsPolish, first_run, first_searches, descent_searches};
 ghost use Rattle.roster_laws.specs.Settled.{HasBestRow};
-ghost use Rattle.roster_polish.specs.Settled.{IsSettled, Spends, extensions_of};
+ghost use Rattle.roster_polish.specs.Settled.{Spends, extensions_of};
 
 use crate::searches::Searches;
 use crate::space::PolishSpace;
@@ -97,9 +98,8 @@ pub(crate) fn descend<T: SearchesRows>(
     requires recalls { RecallsSearches held.old.case last.old }
     requires room { meter.old + extensions_of held.old.case searches.old.left ≤ greatest_u64 }
     ensures case { held.new.case ≡ held.old.case }
-    ensures settled { result ≡ true → IsSettled held.old.case aim.from held.new.roster }
-    ensures given_up { result ≡ false → IsGivenUp held.old.case aim.penalty searches.new.left
-        held.old.roster held.new.roster }
+    ensures descent { Descends held.old.case aim.from aim.penalty searches.new.left
+        held.old.roster held.new.roster result }
     ensures frozen { FrozenDaysStay held.old.case aim.from held.old.roster held.new.roster }
     ensures no_dearer { penalty held.old.case held.new.roster ≤ penalty held.old.case
         held.old.roster }
@@ -127,7 +127,9 @@ pub(crate) fn descend<T: SearchesRows>(
 
 /// How far above the penalty a roster may be after a pass. The first one has no limit, since it may begin
 /// with a late nurse.
-fn slack(pass: u32) -> u64 {
+fn slack(pass: u32) -> u64
+    ensures first { pass ≡ 0 → result ≡ greatest_u64 }
+{
     match pass {
         0 => u64::MAX,
         1 => 60,
@@ -154,6 +156,8 @@ fn make_pass<T: SearchesRows>(
         held.old.roster }
     ensures end { first.nurse ≡ 0 → nurse_count held.old.case ≤ searches.old.left →
         result ≡ (if same_rows held.new.roster held.old.roster then Unchanged else Changed) }
+    ensures steps { IsPass held.old.case first.from first.nurse held.old.roster held.new.roster
+        result }
     ensures stopped { result ≡ Stopped → searches.new.left ≡ 0 }
     ensures falls { result ≡ Changed → penalty held.old.case held.new.roster < penalty held.old.case
         held.old.roster }

@@ -9,6 +9,7 @@ ghost use Rattle.roster_rules.specs.HardRules.{keeps_hard};
 ghost use Rattle.roster_laws.specs.FrozenDays.{FrozenDaysStay};
 ghost use Rattle.roster_row.specs.Recalled.{RecallsSearchesAt};
 ghost use Rattle.roster_laws.specs.Greatest.{extension_count};
+ghost use Rattle.roster_polish.specs.Descents.{FadeStays};
 ghost use Rattle.roster_polish.specs.Fades.{AreFaded};
 ghost use Rattle.roster_polish.specs.Polished.{FitsPolish};
 ghost use Rattle.roster_polish.specs.Tries.{CanSearch, StaysNoDearer};
@@ -58,6 +59,8 @@ pub(crate) fn try_fade<T: SearchesRows>(
     ensures none { kicking.old.passes ≡ 0 → result ≡ false }
     ensures tried { StaysNoDearer held.old.case from held.old.roster held.new kicking.old.searches
         kicking.new.searches space.new meter.old meter.new result }
+    ensures decided { 0 < kicking.old.passes → FadeStays held.old.case from
+        kicking.new.searches.left held.old.roster space.new.faded held.new.roster result }
 {
     held.keeps_rules();
     let base = Base::of(held, from);
@@ -88,6 +91,7 @@ pub(crate) fn fade_rows<T: SearchesRows>(
 ) -> bool
     requires able { CanSearch base.now.case.now kicking.old.searches space.old meter.old }
     ensures keeps { result ≡ true → keeps_hard base.now.case.now space.new.faded ≡ true }
+    ensures breaks { result ≡ false → keeps_hard base.now.case.now space.new.faded ≡ false }
     ensures fewer { 0 < kicking.old.passes → 0 < kicking.old.searches.left →
         kicking.new.searches.left < kicking.old.searches.left }
     ensures faded { AreFaded base.now kicking.old kicking.new space.old space.new meter.old

@@ -7,6 +7,7 @@ ghost use Rattle.roster_instance.specs.Meaning.{nurse_count};
 ghost use Rattle.roster_laws.specs.FrozenDays.{FrozenDaysStay};
 ghost use Rattle.roster_laws.specs.Greatest.{extension_count};
 ghost use Rattle.roster_offers.specs.Workspaces.{fits_space};
+ghost use Rattle.roster_polish.specs.Descents.{KickStays};
 ghost use Rattle.roster_polish.specs.Kicks.{FitsKick};
 ghost use Rattle.roster_polish.specs.Tries.{AreKicked, CanSearch, StaysNoDearer};
 
@@ -56,6 +57,8 @@ pub(crate) fn try_kick<T: SearchesRows>(
     requires kept { space.old.kept ≡ held.old.roster }
     ensures tried { StaysNoDearer held.old.case from held.old.roster held.new kicking.old.searches
         kicking.new.searches space.new meter.old meter.new result }
+    ensures decided { KickStays held.old.case from kicking.new.searches.left held.old.roster
+        held.new.roster result }
 {
     held.keeps_rules();
     let penalty = held.total();

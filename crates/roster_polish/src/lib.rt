@@ -4,16 +4,17 @@
 //! if it is no dearer.
 //!
 //! What a run keeps and logs is defined in `specs/Polished.antt`, what a settled roster is in
-//! `specs/Settled.antt`, what each fade, neighbourhood and kick leaves in `specs/Tries.antt`, and what a
-//! kicked nurse is offered in `specs/Kicks.antt`. `polish` promises a roster that keeps the hard rules and
-//! the frozen days, is settled if it says so, and costs no more than the given one, with a log that is true.
-//! No contract says how good that roster is.
+//! `specs/Settled.antt`, what each fade, neighbourhood and kick leaves in `specs/Tries.antt`, which roster
+//! stays after them in `specs/Descents.antt`, and what a kicked nurse is offered in `specs/Kicks.antt`.
+//! `polish` promises a roster that keeps the hard rules and the frozen days, is settled if it says so, and
+//! costs no more than the given one, with a log that is true. No contract says how good that roster is.
 #![tactic(auto)]
 
 mod again;
 mod descend;
 mod fade;
 mod kick;
+mod laws;
 mod log;
 mod near;
 mod offers;
@@ -27,6 +28,7 @@ mod stay;
 mod turns;
 mod visit;
 
+pub use laws::end_is_cheapest;
 pub use plan::find_roster;
 pub use room::{MOST_SEARCHES, searches_fit_meter};
 pub use run::{Course, Polished, polish, polish_found};

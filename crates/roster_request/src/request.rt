@@ -5,7 +5,7 @@ ghost use Rattle.std.specs.Prelude.{◌≡◌};
 use std::alloc::{AllocError, AllocFailed};
 
 /// What the program is to do. If it changes rows or bounds what they cost, each day of a nurse that changes
-/// from the given roster (to another shift, to off, or from off) costs `keep` points.
+/// from the given roster (to another shift, to off, or from off) costs `keep` points. Another skill is free.
 #[derive(Debug, Drop)]
 pub enum Command {
     /// Writes the solutions that it was given, in canonical form.

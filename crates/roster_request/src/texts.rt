@@ -97,9 +97,9 @@ that keep them. All weeks are read and count towards the cost. If V is above the
 last week, nothing changes.
 
 With --keep N, each day of a nurse that changes from the given roster (to
-another shift, to off, or from off) costs N points more, so that the roster
-stays much as it is. Then the log begins with a line 'keep N', and its numbers
-include these points.
+another shift, to off, or from off; another skill is free) costs N points more,
+so that the roster stays much as it is. Then the log begins with a line
+'keep N', and its numbers include these points.
 
 What isn't promised: that this is the best roster, since the others' rows stay;
 that it is best for two nurses at once; how long the search takes. For its
@@ -145,9 +145,9 @@ section FIXED. All weeks are read and count towards the cost. If V is above the
 last week, nothing changes.
 
 With --keep N, each day of a nurse that changes from the given roster (to
-another shift, to off, or from off) costs N points more, so that the roster
-stays much as it is. Then the log begins with a line 'keep N', and its numbers
-include these points.
+another shift, to off, or from off; another skill is free) costs N points more,
+so that the roster stays much as it is. Then the log begins with a line
+'keep N', and its numbers include these points.
 
 What isn't promised: that these are the best rosters of all, settled or not,
 since changing two rows at once may still save something; how long the run
@@ -195,8 +195,9 @@ which each nurse's days in them, and those of the section FIXED, are as given.
 If V is above the last week, that is the given roster alone.
 
 With --keep N, each day of a nurse that changes from the given roster (to
-another shift, to off, or from off) costs N points more, and the bound is for
-what rosters cost with these points. Then the log begins with a line 'keep N'.
+another shift, to off, or from off; another skill is free) costs N points more,
+and the bound is for what rosters cost with these points. Then the log begins
+with a line 'keep N'.
 
 What isn't promised: how near the bound is to the cheapest roster; how long the
 run takes. For its memory and the greatest number of extensions for a nurse, see
@@ -259,7 +260,7 @@ A search is one for the best row of a nurse. The first descent makes as many as
 it needs, in up to 1,000,000 rounds. After it the run makes at most as many as
 --searches allows: up to a quarter of them to find dual prices; then for the
 fade, up to 400 for each nurse, or fewer if there are more than 50 nurses, but
-not below 150; and the others for neighbourhoods. Once these have brought
+not below 140; and the others for neighbourhoods. Once these have brought
 nothing for long, the roster is faded again, the neighbourhoods of that roster
 are searched, and so on, and the cheapest roster stays. The last three tenths go
 to neighbourhoods of that one. What is done there besides searches counts as
@@ -274,9 +275,9 @@ they are, and so do those of the section FIXED. All weeks are read and count
 towards the cost. If V is above the last week, nothing changes.
 
 With --keep N, each day of a nurse that changes from the given roster (to
-another shift, to off, or from off) costs N points more, so that the roster
-stays much as it is. Then the log begins with a line 'keep N', and its numbers
-include these points.
+another shift, to off, or from off; another skill is free) costs N points more,
+so that the roster stays much as it is. Then the log begins with a line
+'keep N', and its numbers include these points.
 
 What isn't promised: how cheap the rosters get, for which see 'roster bound';
 how long the run takes. For its memory and the greatest number of extensions for
@@ -339,9 +340,9 @@ stay break a hard rule by themselves, one line says so, and no roster is looked
 for.
 
 With --keep N, each day of a nurse that changes from the given roster (to
-another shift, to off, or from off) costs N points more, so that the roster
-stays much as it is. Then the log begins with a line 'keep N', and its numbers
-include these points.
+another shift, to off, or from off; another skill is free) costs N points more,
+so that the roster stays much as it is. Then the log begins with a line
+'keep N', and its numbers include these points.
 
 What isn't promised: that a roster is found if there is one; how cheap the
 rosters get, for which see 'roster bound'; how long the run takes. For its

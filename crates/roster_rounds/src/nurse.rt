@@ -9,7 +9,7 @@ ghost use Rattle.roster_rules.specs.Penalties.{penalty};
 ghost use Rattle.roster_laws.specs.FrozenDays.{FrozenDaysStay};
 ghost use Rattle.roster_laws.specs.Greatest.{extension_count};
 ghost use Rattle.roster_offers.specs.Workspaces.{SameCapacity, fits_space};
-ghost use Rattle.roster_row.specs.Recalled.{RecallsSearches};
+ghost use Rattle.roster_row.specs.Recalled.{RecallsSearches, last_capacity};
 
 use crate::outcome::Step;
 use roster_case::Held;
@@ -69,6 +69,7 @@ pub fn step_or_skip<T: SearchesRows>(
     ensures changed { result.changed ≡ not (same_rows held.new.roster held.old.roster) }
     ensures counted { meter.new ≤ meter.old + extension_count held.old.case nurse }
     ensures same_capacity { SameCapacity workspace.old workspace.new }
+    ensures same_last { last_capacity last.new ≡ last_capacity last.old }
     ensures fits { fits_space held.old.case workspace.new ≡ true }
     ensures recalls { RecallsSearches held.old.case last.new }
 {

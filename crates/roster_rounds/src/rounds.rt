@@ -46,6 +46,7 @@ pub fn improve<W: Write, S: Steps>(
     ensures frozen { FrozenDaysStay held.old.case from held.old.roster held.new.roster }
     ensures counted { meter.new ≤ meter.old + extensions_in held.old.case rounds }
     ensures same_capacity { SameCapacity (S.space workspace.old) (S.space workspace.new) }
+    ensures same_last { S.known_capacity workspace.new ≡ S.known_capacity workspace.old }
     ensures fits { S.fits held.old.case workspace.new ≡ true }
 {
     workspace.begin();
@@ -71,6 +72,7 @@ fn make_rounds<W: Write, S: Steps>(
     ensures frozen { FrozenDaysStay held.old.case from held.old.roster held.new.roster }
     ensures counted { meter.new ≤ meter.old + extensions_in held.old.case rounds }
     ensures same_capacity { SameCapacity (S.space steps.old) (S.space steps.new) }
+    ensures same_last { S.known_capacity steps.new ≡ S.known_capacity steps.old }
     ensures ready { S.IsReady held.old.case steps.new }
 {
     let mut sent = log_start(log, 0, held.case(), held.total())?;
@@ -141,6 +143,7 @@ fn make_round<W: Write, S: Steps>(
     ensures counted { meter.new ≤ meter.old + nurse_count held.old.case * greatest_extension_count
         held.old.case }
     ensures same_capacity { SameCapacity (S.space steps.old) (S.space steps.new) }
+    ensures same_last { S.known_capacity steps.new ≡ S.known_capacity steps.old }
     ensures ready { S.IsReady held.old.case steps.new }
 {
     let mut changes = 0;

@@ -1,6 +1,6 @@
 //! What makes the steps of a run.
 
-ghost use Rattle.std.specs.Prelude.{◌≡◌, ◌+◌, ◌<◌, ◌≤◌, Bool, true, not};
+ghost use Rattle.std.specs.Prelude.{◌≡◌, ◌+◌, ◌<◌, ◌≤◌, Bool, None, Option, Some, true, not};
 ghost use Rattle.roster_bundle.specs.Limits.{greatest_u64};
 ghost use Rattle.roster_instance.specs.Meaning.{Meaning, nurse_count};
 ghost use Rattle.roster_rules.specs.AllowedRows.{best_row};
@@ -9,7 +9,7 @@ ghost use Rattle.roster_rules.specs.Penalties.{penalty};
 ghost use Rattle.roster_laws.specs.FrozenDays.{FrozenDaysStay};
 ghost use Rattle.roster_laws.specs.Greatest.{extension_count};
 ghost use Rattle.roster_offers.specs.Workspaces.{SameCapacity, Space, fits_space};
-ghost use Rattle.roster_row.specs.Recalled.{RecallsSearches};
+ghost use Rattle.roster_row.specs.Recalled.{LastCapacity, RecallsSearches, last_capacity};
 ghost use Rattle.roster_rounds.specs.Spaces.{fits_run};
 
 use crate::nurse::{step, step_or_skip};
@@ -31,10 +31,14 @@ pub trait Steps {
     /// The workspace of its searches.
     ghost space: { Self → Space };
 
+    /// The capacity for what it knows from the searches so far, if it keeps that.
+    ghost known_capacity: { Self → Option LastCapacity };
+
     /// Begins a run: what is known from earlier searches is forgotten.
     fn begin(&mut self)
         ensures ready { (c : Meaning) → fits c self.old ≡ true → IsReady c self.new }
-        ensures same_capacity { SameCapacity (space self.old) (space self.new) };
+        ensures same_capacity { SameCapacity (space self.old) (space self.new) }
+        ensures same_last { known_capacity self.new ≡ known_capacity self.old };
 
     /// Puts the nurse's best row in if it is strictly cheaper, as `crate::step` does.
     fn step(&mut self, held: &mut Held, nurse: usize, from: u16, meter: &mut Meter) -> Step
@@ -49,6 +53,7 @@ pub trait Steps {
         ensures changed { result.changed ≡ not (same_rows held.new.roster held.old.roster) }
         ensures counted { meter.new ≤ meter.old + extension_count held.old.case nurse }
         ensures same_capacity { SameCapacity (space self.old) (space self.new) }
+        ensures same_last { known_capacity self.new ≡ known_capacity self.old }
         ensures ready { IsReady held.old.case self.new };
 
     /// If it is ready, it has the capacity.
@@ -62,6 +67,8 @@ impl<T: SearchesRows> Steps for Workspace<T> {
     ghost IsReady = { λ c w. fits_space c w ≡ true };
 
     ghost space = { λ w. w };
+
+    ghost known_capacity = { λ w. None };
 
     ghost ready_fits = { λ c w fits. fits };
 
@@ -79,6 +86,8 @@ impl<T: SearchesRows> Steps for RunSpace<T> {
     ghost IsReady = { λ c s. (fits_run c s ≡ true) × RecallsSearches c s.last };
 
     ghost space = { λ s. s.workspace };
+
+    ghost known_capacity = { λ s. Some (last_capacity s.last) };
 
     ghost ready_fits = { λ c s ready. ready.0 };
 

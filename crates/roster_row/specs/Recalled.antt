@@ -1,6 +1,6 @@
 -- What the last search for each nurse says of the next one: at what prices it went over the shifts, and what
 -- it found.
-use Rattle.std.specs.Prelude.{◌≡◌, ◌≢◌, ℕ, ◌+◌, ◌-◌, ◌*◌, ◌<◌, ◌≤◌, ◌==◌, ◌&&◌, Bool, Contains, IfSome, List, [], fold, max, Option, Some, None, length, slice_index, slice_index_or}
+use Rattle.std.specs.Prelude.{◌≡◌, ◌≢◌, ℕ, ◌+◌, ◌-◌, ◌*◌, ◌<◌, ◌≤◌, ◌==◌, ◌&&◌, Bool, Contains, IfSome, List, [], fold, max, Option, Some, None, length, slice_index, slice_index_or, vec_capacity}
 use Rattle.roster_instance.specs.declared.choice.Shift.{Shift}
 use Rattle.roster_instance.specs.Choices.{shift_of}
 use Rattle.roster_instance.specs.Limits.{most_shifts}
@@ -62,7 +62,15 @@ pub record WasSearchedAt (c : Meaning) (scale : ℕ) (last : LastSearches) (n co
   pub prices : (d : ℕ) → d < day_count c → ArePrices (offers d) (prices_on c last n d)
   pub found : best_over_at c n scale offers ≡ Some (cost, row)
 
--- the capacity is that of the case: a cost for each nurse, and prices for each nurse and day
+-- for how many days' prices and for how many costs there is capacity without an allocation
+pub record LastCapacity : Type 0 where
+  pub prices : ℕ
+  pub costs : ℕ
+
+abbrev pub last_capacity : LastSearches → LastCapacity
+last_capacity last = record { prices = vec_capacity last.prices; costs = vec_capacity last.costs }
+
+-- there is one cost for each nurse, and prices for each nurse and day
 abbrev pub fits_last : Meaning → LastSearches → Bool
 fits_last c last =
     (length last.costs.items == nurse_count c) && (length last.prices.items == nurse_count c * day_count c)

@@ -7,7 +7,7 @@ ghost use Rattle.roster_instance.specs.Meaning.{Meaning, day_count, nurse_count}
 ghost use Rattle.roster_rules.specs.AllowedRows.{best_row};
 ghost use Rattle.roster_rules.specs.Improver.{step};
 ghost use Rattle.roster_offers.specs.Lists.{AreOffersAt, offers_on};
-ghost use Rattle.roster_row.specs.Recalled.{ArePrices, AreRemembered, IsDearer, RecallsSearches, RecallsSearchesAt, fits_last, gain_over, most_gain, price_index, prices_on};
+ghost use Rattle.roster_row.specs.Recalled.{ArePrices, AreRemembered, IsDearer, RecallsSearches, RecallsSearchesAt, fits_last, gain_over, last_capacity, most_gain, price_index, prices_on};
 ghost use Rattle.roster_row.specs.Searches.{AreOffersOf, AreShiftOffers};
 
 use arrayvec::ArrayVec;
@@ -59,7 +59,7 @@ impl LastSearches {
         })
     }
 
-    /// Whether the capacity is that of the case: a cost for each nurse, and prices for each nurse and day.
+    /// Whether it serves the case: it has a cost for each nurse, and prices for each nurse and day.
     pub fn fits(&self, case: &Case) -> bool
         ensures { result ≡ fits_last case.now self.now }
     {
@@ -71,6 +71,7 @@ impl LastSearches {
     pub fn forget(&mut self)
         ensures prices { self.new.prices ≡ self.old.prices }
         ensures costs { self.new.costs.items ≡ replicate (length self.old.costs.items) None }
+        ensures same_capacity { last_capacity self.new ≡ last_capacity self.old }
     {
         self.costs.fill(None);
     }
@@ -81,6 +82,7 @@ impl LastSearches {
         ensures prices { self.new.prices.items ≡ other.now.prices.items }
         ensures costs { self.new.costs.items ≡ other.now.costs.items }
         ensures recalls { (c : Meaning) → RecallsSearches c other.now → RecallsSearches c self.new }
+        ensures same_capacity { last_capacity self.new ≡ last_capacity self.old }
     {
         self.prices.copy_from_slice(other.prices.as_slice());
         self.costs.copy_from_slice(other.costs.as_slice());
@@ -174,6 +176,7 @@ impl LastSearches {
         requires offers { (scale : ℕ) × AreOffersAt case.now nurse scale offers.now }
         ensures recalls { AreRemembered case.now nurse (offers_on offers.now) cost self.old
             self.new }
+        ensures same_capacity { last_capacity self.new ≡ last_capacity self.old }
     {
         case.keeps_limits();
         let days = offers.len();

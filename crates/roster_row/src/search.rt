@@ -6,12 +6,12 @@ ghost use Rattle.roster_instance.specs.Meaning.{day_count, nurse_count};
 ghost use Rattle.roster_rules.specs.AllowedRows.{IsBestRow, best_row, penalty_with, row_keeps};
 ghost use Rattle.roster_rules.specs.Improver.{step};
 ghost use Rattle.roster_rules.specs.Prefix.{due};
-ghost use Rattle.roster_laws.specs.Greatest.{extension_count};
+ghost use Rattle.roster_laws.specs.Greatest.{extension_count, greatest_state_count};
 ghost use Rattle.roster_laws.specs.OneRow.{rest_of};
 ghost use Rattle.roster_offers.specs.Lists.{IsFound, best_over, offers_on};
 ghost use Rattle.roster_offers.specs.Offers.{shift_offers};
 ghost use Rattle.roster_offers.specs.Workspaces.{SameCapacity, fits_space};
-ghost use Rattle.roster_row.specs.Recalled.{RecallsSearches};
+ghost use Rattle.roster_row.specs.Recalled.{RecallsSearches, last_capacity};
 ghost use Rattle.roster_row.specs.Searches.{AreOffersOf, AreShiftOffers};
 
 use crate::last::LastSearches;
@@ -50,8 +50,8 @@ pub fn best_row<T: SearchesRows>(
     // What it takes.
     ensures each_day { meter.old + day_count held.now.case ≤ meter.new }
     ensures counted { meter.new ≤ meter.old + extension_count held.now.case nurse }
-    ensures are_reachable { T.IsCounted held.now.case nurse (shift_offers held.now.case from
-        held.now.roster nurse) meter.old meter.new }
+    ensures are_reachable { T.IsCounted (greatest_state_count held.now.case) held.now.case nurse
+        (shift_offers held.now.case from held.now.roster nurse) meter.old meter.new }
     ensures same_capacity { SameCapacity workspace.old workspace.new }
     ensures fits { fits_space held.now.case workspace.new ≡ true }
 {
@@ -89,8 +89,13 @@ pub fn cheaper_row<T: SearchesRows>(
 
     // What it takes.
     ensures spared { IfNone result (meter.new ≡ meter.old) }
+    ensures each_day { OnSome result (meter.old + day_count held.now.case ≤ meter.new) }
     ensures counted { meter.new ≤ meter.old + extension_count held.now.case nurse }
+    ensures are_reachable { OnSome result (T.IsCounted (greatest_state_count held.now.case)
+        held.now.case nurse (shift_offers held.now.case from held.now.roster nurse) meter.old
+        meter.new) }
     ensures same_capacity { SameCapacity workspace.old workspace.new }
+    ensures same_last { last_capacity last.new ≡ last_capacity last.old }
     ensures fits { fits_space held.now.case workspace.new ≡ true }
     ensures recalls { RecallsSearches held.now.case last.new }
 {
@@ -123,8 +128,8 @@ fn best_of_offers<T: SearchesRows>(
         + due held.now.case nurse [] + result.0 }
     ensures each_day { meter.old + day_count held.now.case ≤ meter.new }
     ensures counted { meter.new ≤ meter.old + extension_count held.now.case nurse }
-    ensures are_reachable { T.IsCounted held.now.case nurse (offers_on workspace.old.offers)
-        meter.old meter.new }
+    ensures are_reachable { T.IsCounted (greatest_state_count held.now.case) held.now.case nurse
+        (offers_on workspace.old.offers) meter.old meter.new }
     ensures same_capacity { SameCapacity workspace.old workspace.new }
     ensures fits { fits_space held.now.case workspace.new ≡ true }
     ensures offers { workspace.new.offers ≡ workspace.old.offers }

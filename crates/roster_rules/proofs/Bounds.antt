@@ -7,7 +7,7 @@ use Rattle.roster_instance.specs.Days.{Days, shift_on, works, days_worked, satur
 use Rattle.roster_instance.specs.Limits.{most_days, most_keep, most_nurses, most_shifts, most_skills, most_small, most_weeks}
 use Rattle.roster_instance.specs.Meaning.{Meaning, week_count, day_count, shift_count, skill_count, nurse_count, run_of_shift, past_of, contract_of, optimum}
 use Rattle.roster_rules.specs.Penalties.{staffing_cost, staffing_cost_of_day, working_run_cost, shift_run_cost, free_run_cost, breaks_off_request, meets_wishes, off_request_cost, is_kept, keep_cost, keep_cost_on, request_cost, request_cost_on, wish_cost, wish_cost_on, split_cost, totals_cost, weekends_cost, over_nurses, costs_of, total_cost}
-use Rattle.roster_rules.specs.PenaltyBounds.{most_penalty, most_staffing, penalty_limit}
+use Rattle.roster_rules.specs.PenaltyBounds.{most_penalty, most_penalty_unkept, most_staffing, penalty_limit}
 use Rattle.roster_rules.specs.Weights.{staffing_weight, working_run_weight, shift_run_weight, free_run_weight, most_request, off_request_weight, split_weight, assignment_weight, weekend_weight, wish_weight}
 use Rattle.roster_instance.specs.Rosters.{Rows, days_of_nurse, cover, fits_case}
 use Rattle.roster_instance.specs.Small.{HasSmallNumbers}
@@ -84,9 +84,17 @@ kept_within : (kept : Bool) (keep : ℕ) → keep ≤ most_keep → (if kept the
 kept_within true keep few = omega arith
 kept_within false keep few = few
 
+nothing_kept : (kept : Bool) (keep : ℕ) → keep ≡ 0 → (if kept then 0 else keep) ≤ 0
+nothing_kept true keep none = omega arith
+nothing_kept false keep none = omega (arith, none)
+
 pub request_on-within : (c : Meaning) (n d : ℕ) (shift : Option Shift) → c.keep ≤ most_keep → request_cost_on c n d shift ≤ most_request
 request_on-within c n d shift few =
     omega (arith, where_within (breaks_off_request c n d shift) off_request_weight off_request_weight (omega arith), unless_within (meets_wishes c n d shift), kept_within (is_kept c n d shift) c.keep few)
+
+pub request_on-unkept : (c : Meaning) (n d : ℕ) (shift : Option Shift) → c.keep ≡ 0 → request_cost_on c n d shift + most_keep ≤ most_request
+request_on-unkept c n d shift none =
+    omega (arith, where_within (breaks_off_request c n d shift) off_request_weight off_request_weight (omega arith), unless_within (meets_wishes c n d shift), nothing_kept (is_kept c n d shift) c.keep none)
 
 module _ (c : Meaning) (n : ℕ) (days : Days) (small : HasSmallNumbers c) (few : length days ≤ most_days) where
   pub both_run_costs-within : working_run_cost c n days + free_run_cost c n days ≤ most_working_and_free
@@ -105,6 +113,9 @@ module _ (c : Meaning) (n : ℕ) (days : Days) (small : HasSmallNumbers c) (few 
 
   pub keep_cost-within : keep_cost c n days ≤ most_kept
   keep_cost-within = omega (arith, sum_within (length days) most_keep (λ d. keep_cost_on c n d (shift_on days d)) (λ d h. kept_within (is_kept c n d (shift_on days d)) c.keep small.keep))
+
+  no_keep_cost : c.keep ≡ 0 → keep_cost c n days ≤ 0
+  no_keep_cost none = omega (arith, sum_within (length days) 0 (λ d. keep_cost_on c n d (shift_on days d)) (λ d h. nothing_kept (is_kept c n d (shift_on days d)) c.keep none))
 
   pub request_cost-within : request_cost c n days ≤ most_off_requests + most_wishes + most_kept
   request_cost-within = omega (arith, off_request_cost-within, wish_cost-within, keep_cost-within)
@@ -136,11 +147,15 @@ over_nurses-within c r rule m each few = sum_within (nurse_count c) m (λ n. rul
 both_rules : (c : Meaning) (r : Rows) (rule other : ℕ → Days → ℕ) → over_nurses c r rule + over_nurses c r other ≡ over_nurses c r (λ n days. rule n days + other n days)
 both_rules c r rule other = sym (sum_both (nurse_count c) (λ n. rule n (days_of_nurse r n)) (λ n. other n (days_of_nurse r n)))
 
--- in numbers 698,181,120, and 16,548,965 for each of 400 nurses: 7,317,767,120
-pub penalty-at_most : (c : Meaning) (r : Rows) → HasSmallNumbers c → shift_count c ≤ most_shifts → skill_count c ≤ most_skills → week_count c ≤ most_weeks → nurse_count c ≤ most_nurses → fits_case c r ≡ true → total_cost (costs_of c r) ≤ most_penalty
+-- the days of each nurse
+few_days : (c : Meaning) (r : Rows) → week_count c ≤ most_weeks → fits_case c r ≡ true → (n : ℕ) → n < nurse_count c → length (days_of_nurse r n) ≤ most_days
+few_days c r weeks fit n h = omega (arith, days_of_nurse-length c r n fit h)
+
+-- besides what changes cost, in numbers 698,181,120, and 16,512,565 for each of 400 nurses: 7,303,207,120
+penalty-besides : (c : Meaning) (r : Rows) → HasSmallNumbers c → shift_count c ≤ most_shifts → skill_count c ≤ most_skills → week_count c ≤ most_weeks → nurse_count c ≤ most_nurses → fits_case c r ≡ true → total_cost (costs_of c r) ≤ most_penalty_unkept + over_nurses c r (keep_cost c)
 unfolding costs_of
-penalty-at_most c r small shifts skills weeks nurses fit =
-    let few : (n : ℕ) → n < nurse_count c → length (days_of_nurse r n) ≤ most_days = λ n h. omega (arith, days_of_nurse-length c r n fit h) in
+penalty-besides c r small shifts skills weeks nurses fit =
+    let few = few_days c r weeks fit in
     let working : ℕ → Days → ℕ = λ n days. working_run_cost c n days + shift_run_cost c n days in
     let together = both_rules c r working (free_run_cost c) in
     let runs = over_nurses-within c r (λ n days. working n days + free_run_cost c n days) (most_working_and_free + most_shift) (λ n days d. omega (arith, both_run_costs-within c n days small d, shift_run_cost-within c n days small d)) few in
@@ -149,8 +164,19 @@ penalty-at_most c r small shifts skills weeks nurses fit =
     let total = over_nurses-within c r (totals_cost c) most_totals (λ n days d. totals_cost-within c n days small d) few in
     let weekends = over_nurses-within c r (weekends_cost c) most_weekends (λ n days d. weekends_cost-within c n days small d) few in
     let wishes = over_nurses-within c r (wish_cost c) most_wishes (λ n days d. wish_cost-within c n days small d) few in
-    let kept = over_nurses-within c r (keep_cost c) most_kept (λ n days d. keep_cost-within c n days small d) few in
-    omega (arith, staffing_cost-within c r small shifts skills (omega arith), together, runs, off_requests, splits, total, weekends, wishes, kept)
+    omega (arith, staffing_cost-within c r small shifts skills (omega arith), together, runs, off_requests, splits, total, weekends, wishes)
+
+-- with them 16,548,965 for each nurse: 7,317,767,120
+pub penalty-at_most : (c : Meaning) (r : Rows) → HasSmallNumbers c → shift_count c ≤ most_shifts → skill_count c ≤ most_skills → week_count c ≤ most_weeks → nurse_count c ≤ most_nurses → fits_case c r ≡ true → total_cost (costs_of c r) ≤ most_penalty
+penalty-at_most c r small shifts skills weeks nurses fit =
+    let kept = over_nurses-within c r (keep_cost c) most_kept (λ n days d. keep_cost-within c n days small d) (few_days c r weeks fit) in
+    omega (arith, penalty-besides c r small shifts skills weeks nurses fit, kept)
+
+-- without a roster that is kept
+pub penalty-unkept : (c : Meaning) (r : Rows) → HasSmallNumbers c → shift_count c ≤ most_shifts → skill_count c ≤ most_skills → week_count c ≤ most_weeks → nurse_count c ≤ most_nurses → c.keep ≡ 0 → fits_case c r ≡ true → total_cost (costs_of c r) ≤ most_penalty_unkept
+penalty-unkept c r small shifts skills weeks nurses none fit =
+    let kept = over_nurses-within c r (keep_cost c) 0 (λ n days d. no_keep_cost c n days small d none) (few_days c r weeks fit) in
+    omega (arith, penalty-besides c r small shifts skills weeks nurses fit, kept)
 
 pub penalty-within : (c : Meaning) (r : Rows) → HasSmallNumbers c → shift_count c ≤ most_shifts → skill_count c ≤ most_skills → week_count c ≤ most_weeks → nurse_count c ≤ most_nurses → fits_case c r ≡ true → total_cost (costs_of c r) < penalty_limit
 penalty-within c r small shifts skills weeks nurses fit = omega (arith, penalty-at_most c r small shifts skills weeks nurses fit)

@@ -11,6 +11,10 @@ most_staffing = most_days * most_shifts * most_skills * staffing_weight * most_s
 abbrev pub most_penalty : ℕ
 most_penalty = 7317767120
 
+-- nor above this if no roster is kept
+abbrev pub most_penalty_unkept : ℕ
+most_penalty_unkept = 7303207120
+
 -- each penalty is below 2^33
 abbrev pub penalty_limit : ℕ
 penalty_limit = 8589934592

@@ -3,7 +3,7 @@ use Rattle.std.proofs.Common.{◌≡◌, ◌≢◌, ◌+◌, ◌-◌, ◌<◌, �
 use Rattle.roster_instance.specs.declared.rules.Limits.{Limits}
 use Rattle.roster_instance.specs.RunLaw.{day_violations}
 use Rattle.roster_state.specs.declared.line.LineCosts.{LineCosts}
-use Rattle.roster_state.specs.CompletionLines.{IsUnderLeave, IsUnderStay, most_completion_bound}
+use Rattle.roster_state.specs.CompletionLines.{IsLesser, IsUnderLeave, IsUnderStay, most_completion_bound}
 
 -- what holds for each cell below an index, and for one more cell
 module _ {X : Type 0} (none : X) (P : ℕ → X → Type 0) (xs : List X) (place : ℕ) (x : X) (inside : place < length xs) where
@@ -17,12 +17,14 @@ module _ {X : Type 0} (none : X) (P : ℕ → X → Type 0) (xs : List X) (place
 pub record AreCells (costs : LineCosts) (after : List ℕ) (place : ℕ) (here : List ℕ) : Type 0 where
   pub leaves : (q : ℕ) → q < place → IsUnderLeave costs q (slice_index_or here q 0)
   pub stays : (q : ℕ) → q < place → IsUnderStay costs after q (slice_index_or here q 0)
+  pub lesser : (q : ℕ) → q < place → IsLesser costs after q (slice_index_or here q 0)
   pub low : (q : ℕ) → q < place → slice_index_or here q 0 ≤ most_completion_bound
 
-pub cell_more : (costs : LineCosts) (after : List ℕ) (place : ℕ) (here : List ℕ) (completion_bound : ℕ) → place < length here → AreCells costs after place here → IsUnderLeave costs place completion_bound → IsUnderStay costs after place completion_bound → completion_bound ≤ most_completion_bound → AreCells costs after (place + 1) (set here place completion_bound)
-cell_more costs after place here completion_bound inside given leaves stays low = record {
+pub cell_more : (costs : LineCosts) (after : List ℕ) (place : ℕ) (here : List ℕ) (completion_bound : ℕ) → place < length here → AreCells costs after place here → IsUnderLeave costs place completion_bound → IsUnderStay costs after place completion_bound → IsLesser costs after place completion_bound → completion_bound ≤ most_completion_bound → AreCells costs after (place + 1) (set here place completion_bound)
+cell_more costs after place here completion_bound inside given leaves stays lesser low = record {
   leaves = each_more 0 (IsUnderLeave costs) here place completion_bound inside given.leaves leaves;
   stays = each_more 0 (IsUnderStay costs after) here place completion_bound inside given.stays stays;
+  lesser = each_more 0 (IsLesser costs after) here place completion_bound inside given.lesser lesser;
   low = each_more 0 (λ q x. x ≤ most_completion_bound) here place completion_bound inside given.low low;
 }
 

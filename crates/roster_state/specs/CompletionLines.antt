@@ -1,5 +1,5 @@
 -- A line of completion bounds: those of one last shift and one run, one for each run of the shift (our own).
-use Rattle.std.specs.Prelude.{◌≡◌, ℕ, ◌+◌, ◌*◌, ◌≤◌, true, false, List, length, min, slice_index_or}
+use Rattle.std.specs.Prelude.{◌≡◌, ℕ, ◌+◌, ◌*◌, ◌<◌, ◌≤◌, true, false, List, length, min, slice_index_or}
 use Rattle.roster_instance.specs.declared.rules.Limits.{Limits}
 use Rattle.roster_instance.specs.RunLaw.{day_violations}
 use Rattle.roster_instance.specs.Sizes.{cap}
@@ -37,6 +37,13 @@ abbrev pub IsUnderStay : LineCosts → (after : List ℕ) → (q completion_boun
 IsUnderStay costs after q completion_bound =
     completion_bound ≤ costs.stay + costs.weight * day_violations costs.run q true
     + slice_index_or after (longer q costs.run) 0
+
+-- a number that is computed, after a run that a row can reach, is no less than both these numbers
+abbrev pub IsLesser : LineCosts → (after : List ℕ) → (q completion_bound : ℕ) → Type 0
+IsLesser costs after q completion_bound =
+    0 < q → q < costs.count → min (costs.leave + costs.weight * day_violations costs.run q false)
+    (costs.stay + costs.weight * day_violations costs.run q true
+    + slice_index_or after (longer q costs.run) 0) ≤ completion_bound
 
 -- it keeps its length, and each of its completion bounds was counted once for each of its day's offers
 pub record IsCounted (old new : List ℕ) (offers before after : ℕ) : Type 0 where

@@ -4,7 +4,7 @@
 ghost use Rattle.std.specs.Prelude.{◌≡◌, ◌+◌, ◌*◌, ◌<◌, ◌≤◌, ℕ, length, slice_index_or};
 ghost use Rattle.roster_bundle.specs.Limits.{greatest_u64};
 ghost use Rattle.roster_instance.specs.Sizes.{cap};
-ghost use Rattle.roster_state.specs.CompletionLines.{AreLow, IsCounted, IsUnderLeave, IsUnderStay, most_completion_bound, most_weight};
+ghost use Rattle.roster_state.specs.CompletionLines.{AreLow, IsCounted, IsLesser, IsUnderLeave, IsUnderStay, most_completion_bound, most_weight};
 
 use crate::meter::Meter;
 use roster_instance::Limits;
@@ -21,8 +21,9 @@ pub struct LineCosts {
     pub count: usize,
 }
 
-/// Sets a line, where `after` is the line to which staying leads. The meter counts each of its completion
-/// bounds once for each of that many offers.
+/// Sets a line, where `after` is the line to which staying leads: after each run to the lesser of what
+/// leaving the shift costs and what staying in it does. The first cell, and those that aren't computed, may
+/// be lower. The meter counts each of its completion bounds once for each of that many offers.
 #[inline(always)]
 pub fn set_line(costs: LineCosts, offers: usize, after: &[u32], here: &mut [u32], meter: &mut Meter)
     requires after_long { cap costs.run < length after.now }
@@ -37,6 +38,8 @@ pub fn set_line(costs: LineCosts, offers: usize, after: &[u32], here: &mut [u32]
         IsUnderLeave costs q (slice_index_or here.new q 0) }
     ensures stays { (q : ℕ) → q < length here.new →
         IsUnderStay costs after.now q (slice_index_or here.new q 0) }
+    ensures lesser { (q : ℕ) → q < length here.new →
+        IsLesser costs after.now q (slice_index_or here.new q 0) }
     ensures low { AreLow here.new }
     ensures counted { IsCounted here.old here.new offers meter.old meter.new }
 {
@@ -72,6 +75,8 @@ fn set_cells(costs: LineCosts, after: &[u32], here: &mut [u32])
         IsUnderLeave costs q (slice_index_or here.new q 0) }
     ensures stays { (q : ℕ) → q < length here.new →
         IsUnderStay costs after.now q (slice_index_or here.new q 0) }
+    ensures lesser { (q : ℕ) → q < length here.new →
+        IsLesser costs after.now q (slice_index_or here.new q 0) }
     ensures low { AreLow here.new }
     ensures length { length here.new ≡ length here.old }
 {

@@ -1,6 +1,6 @@
 //! Spans: strips of several blocks, which a search extends at once.
 
-ghost use Rattle.std.specs.Prelude.{◌+◌, ◌<◌, ◌≤◌, true, is_some};
+ghost use Rattle.std.specs.Prelude.{◌≡◌, ◌+◌, ◌<◌, ◌≤◌, ◌⊎◌, true, is_some};
 ghost use Rattle.roster_instance.specs.Meaning.{contract_of};
 ghost use Rattle.roster_rules.specs.DayLaw.{weekends_more};
 ghost use Rattle.roster_instance.specs.Sizes.{cap};
@@ -21,7 +21,7 @@ pub struct Span {
 }
 
 impl NurseDays<'_> {
-    /// How many strips of a span, from the first on, a day treats alike: those that it takes to no worked
+    /// How many strips of a span, from the first on, a day treats alike: all those that it takes to no worked
     /// weekend above the greatest number, or the first alone.
     #[inline(always)]
     pub fn alike_strips(&self, day: u16, span: &Span) -> u32
@@ -31,6 +31,10 @@ impl NurseDays<'_> {
         ensures alike { 1 < result → span.now.block.weekends + result
             + weekends_more day (is_some span.now.block.last)
             true ≤ (contract_of self.now.case.now self.now.nurse).weekends + 1 }
+        ensures most { result < span.now.strips →
+            (contract_of self.now.case.now self.now.nurse).weekends
+            < span.now.block.weekends + result
+            + weekends_more day (is_some span.now.block.last) true }
     {
         let state = span.block.state;
         let last = state.last;
@@ -40,7 +44,7 @@ impl NurseDays<'_> {
         span.strips.min(left.max(1))
     }
 
-    /// Up to which place of a span, from the first on, a day treats the places alike: those below the
+    /// Up to which place of a span, from the first on, a day treats the places alike: all those below the
     /// greatest total, or those from it on below the cap, or the cap alone.
     #[inline(always)]
     pub fn alike_end(&self, span: &Span) -> u32
@@ -54,6 +58,9 @@ impl NurseDays<'_> {
         ensures level { span.now.begin
             < (contract_of self.now.case.now self.now.nurse).total.greatest →
             result ≤ (contract_of self.now.case.now self.now.nurse).total.greatest }
+        ensures most { result < span.now.end →
+            (result ≡ (contract_of self.now.case.now self.now.nurse).total.greatest)
+            ⊎ (result ≡ cap (contract_of self.now.case.now self.now.nurse).total) }
     {
         let total = self.rules.total;
         let (greatest, cap) = (total.greatest as u32, total.cap() as u32);

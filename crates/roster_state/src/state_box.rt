@@ -115,9 +115,10 @@ impl StateBox {
         }
     }
 
-    /// Whether no state is in the box.
+    /// Whether no run is in the box, and so no state. Otherwise there is a run, the least.
     fn is_empty(&self) -> bool
-        ensures { result ≡ true → (s : Summary) → InBox self.now s → 1 ≤ 0 }
+        ensures none { result ≡ true → (s : Summary) → InBox self.now s → 1 ≤ 0 }
+        ensures some { result ≡ false → InInterval self.now.run self.now.run.least }
     {
         self.run.least > self.run.greatest
     }

@@ -25,14 +25,16 @@ impl Drop for Pointers {
 }
 
 impl Model for Pointers {
-    ghost use Rattle.std.specs.Prelude.{◌≡◌, ℕ, List, length};
+    ghost use Rattle.std.specs.Prelude.{◌≡◌, ℕ, List, length, vec_capacity};
     ghost use Rattle.roster_tables.specs.Halves.{bytes_for, pointers_in};
 
     ghost Value = { List ℕ };
 
     ghost view = { λ p. pointers_in p.count p.bytes.items };
 
-    ghost invariant = { λ p. length p.bytes.items ≡ bytes_for p.count };
+    // The bytes fill their list, so with the number of pointers its capacity stays too.
+    ghost invariant = { λ p. (length p.bytes.items ≡ bytes_for p.count)
+        × (vec_capacity p.bytes ≡ length p.bytes.items) };
 }
 
 impl Pointers {
@@ -44,10 +46,12 @@ impl Pointers {
     pub fn new(alloc: Global, count: usize) -> Result<Pointers, AllocError>
         ensures { IfOk result (λ pointers. length pointers ≡ count) }
     {
-        Ok(Pointers {
-            count,
-            bytes: vec![in alloc; 0; count / 2 + count % 2]?,
-        })
+        let needed = count / 2 + count % 2;
+        let mut bytes = Vec::with_capacity(alloc, needed)?;
+        for _ in 0..needed {
+            bytes.push_reserved(0);
+        }
+        Ok(Pointers { count, bytes })
     }
 
     /// The number of pointers.

@@ -61,6 +61,10 @@ Stops-after contents old mid new xs ys p q = record { sent = length xs + q.sent;
 
 -- ---- the same with counts
 
+-- nothing is sent
+pub Sends-nil : {W : Type 0} (contents : W → Option (List ℕ)) (w : Watched W) (before : ℕ) → before < 2 ^ 64 → Sends contents w w before before []
+Sends-nil contents w before fits = record { writes = Writes-nil contents w; counted = omega (arith, fits) }
+
 pub Sends-append : {W : Type 0} (contents : W → Option (List ℕ)) (old mid new : Watched W) (before between after : ℕ) (xs ys : List ℕ)
     → Sends contents old mid before between xs → Sends contents mid new between after ys → Sends contents old new before after (xs ++ ys)
 Sends-append contents old mid new before between after xs ys p q =

@@ -31,4 +31,4 @@ pub use reading::{MAX_INPUT, read_all};
 pub use roster_bundle::{Bundle, SolutionView, Token};
 pub use token::tokens;
 pub use watch::Watch;
-pub use writing::{weekday_text, write_solution};
+pub use writing::{send_solution, weekday_text, write_solution};

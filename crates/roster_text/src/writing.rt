@@ -18,11 +18,26 @@ pub fn write_solution<W: Write, S: SolutionView>(
     ensures ok { OnOk result (Writes W.contents out.old out.new (canonical (S.shown view.now))) }
     ensures err { IfErr result (StopsIn W.contents out.old out.new (canonical (S.shown view.now))) }
 {
-    let mut sent = send_heading(out, 0, view)?;
+    send_solution(out, 0, view)?;
+    Ok(())
+}
+
+/// Writes the same text as a part of a longer one, as `send_pieces` does.
+pub fn send_solution<W: Write, S: SolutionView>(
+    out: &mut Watch<W>,
+    before: usize,
+    view: &S,
+) -> Result<usize, WriteFault>
+    ensures ok { IfOk result (λ after. Sends W.contents out.old out.new before after
+        (canonical (S.shown view.now))) }
+    ensures err { IfErr result (BreaksIn W.contents out.old out.new before
+        (canonical (S.shown view.now))) }
+{
+    let mut sent = send_heading(out, before, view)?;
     for nurse in 0..view.nurses() {
         sent = send_nurse(out, sent, view, nurse)?;
     }
-    Ok(())
+    Ok(sent)
 }
 
 // Each of these sends a part of the text, as `send_pieces` does.

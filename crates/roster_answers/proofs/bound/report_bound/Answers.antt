@@ -1,66 +1,11 @@
-use Rattle.std.proofs.Common.{◌≡◌, ◌∙◌, [], ap, refl, subst, Err, Ok}
-use Rattle.std.proofs.lemmas.Result.{err_from_is_err_and}
-use Rattle.roster_text.specs.Io.{Stops, Writes}
-use Rattle.roster_case.specs.Held.{HeldRoster}
-use Rattle.roster_rules.specs.HardRules.{hard_faults}
+use Rattle.std.proofs.Common.{subst}
 use Rattle.roster_instance.specs.Meaning.{Meaning}
-use Rattle.roster_rules.specs.Penalties.{penalty}
-use Rattle.roster_bound.specs.BoundLogs.{BoundLogStops, RaisesBound}
-use Rattle.roster_answers.specs.Answer.{IsUnheld, Output}
-use Rattle.roster_reports.specs.Lines.{bound_text}
-use Rattle.roster_answers.specs.declared.fault.Fault.TheVariants as fault
-use Rattle.roster_answers.proofs.BoundLemmas.{bound_ends, bound_roomless, bound_stops, bound_unheld}
+use Rattle.roster_answers.specs.Answer.{IsBoundReport, Output, Reports, outcome_of}
 use Rattle.roster_answers.proofs.bound.report_bound.Goals as goal
-
-pub returns-in_err-held : goal.returns-in_err-held
-returns-in_err-held g c =
-    let output : Output g.row.Out.Denot = record { contents = g.Out.Write.contents; before = c.args.output.now; after = c.args.output.now } in
-    let log : Output g.row.Log.Denot = record { contents = g.Log.Write.contents; before = c.args.log.now; after = c.args.log.now } in
-    let p = err_from_is_err_and c.from_residual.result c.from_residual.ensures.1 in
-    rw (p.1, p.2) (bound_unheld c.args.effort c.args.from c.args.instance.case c.args.instance.roster output log c.in_err-held.field-0.0 (subst (λ (m : Meaning). IsUnheld m (hard_faults m c.args.instance.roster) c.in_err-held.field-0.0) c.new-meter.ensures.same c.in_err-held.ensures.unheld) refl refl)
-
-pub returns-in_default : goal.returns-in_default
-returns-in_default g c =
-    let output : Output g.row.Out.Denot = record { contents = g.Out.Write.contents; before = c.args.output.now; after = c.args.output.now } in
-    let log : Output g.row.Log.Denot = record { contents = g.Log.Write.contents; before = c.args.log.now; after = c.args.log.now } in
-    bound_roomless c.args.effort c.args.from c.args.instance.case c.args.instance.roster output log (subst (λ (m : Meaning). hard_faults m c.args.instance.roster ≡ []) c.new-meter.ensures.same c.in_ok-held.ensures.kept) refl refl
-
-pub returns-in_err-write_bound-in-Ok-raise_bound : goal.returns-in_err-write_bound-in-Ok-raise_bound
-returns-in_err-write_bound-in-Ok-raise_bound g c =
-    let output : Output g.row.Out.Denot = record { contents = g.Out.Write.contents; before = c.args.output.now; after = c.write_bound.new.output } in
-    let log : Output g.row.Log.Denot = record { contents = g.Log.Write.contents; before = c.args.log.now; after = c.raise_bound.new.log } in
-    let of_case : Meaning → HeldRoster = λ m. record { case = m; roster = c.args.instance.roster } in
-    let held = c.in_ok-held.ensures.held ∙ ap of_case c.new-meter.ensures.same in
-    let kept = subst (λ (m : Meaning). hard_faults m c.args.instance.roster ≡ []) c.new-meter.ensures.same c.in_ok-held.ensures.kept in
-    let bound = c.in-Ok-raise_bound.bound in
-    let raised = subst (λ (h : HeldRoster). RaisesBound g.Log.Write.contents h.case c.args.from h.roster c.args.effort c.args.log.now c.raise_bound.new.log bound) held c.in-Ok-raise_bound.ensures.ok in
-    let total_is = c.total.ensures.total ∙ ap (λ (h : HeldRoster). penalty h.case h.roster) held in
-    let broken = c.in_err-write_bound-in-Ok-raise_bound.ensures.err in
-    let stops : Stops g.Out.Write.contents c.args.output.now c.write_bound.new.output (bound_text c.total.result bound) = record { sent = broken.sent; stops = broken.stops } in
-    let meant = subst (λ n. Stops g.Out.Write.contents c.args.output.now c.write_bound.new.output (bound_text n bound)) total_is stops in
-    let p = err_from_is_err_and c.from_residual-in_err-write_bound-in-Ok-raise_bound.result c.from_residual-in_err-write_bound-in-Ok-raise_bound.ensures.1 in
-    rw (p.1, p.2) (bound_ends c.args.effort c.args.from c.args.instance.case c.args.instance.roster output log {X = Unit {0}} bound (Err fault.Output) kept raised tt meant)
-
-pub returns-in-Ok-raise_bound : goal.returns-in-Ok-raise_bound
-returns-in-Ok-raise_bound g c =
-    let output : Output g.row.Out.Denot = record { contents = g.Out.Write.contents; before = c.args.output.now; after = c.write_bound.new.output } in
-    let log : Output g.row.Log.Denot = record { contents = g.Log.Write.contents; before = c.args.log.now; after = c.raise_bound.new.log } in
-    let of_case : Meaning → HeldRoster = λ m. record { case = m; roster = c.args.instance.roster } in
-    let held = c.in_ok-held.ensures.held ∙ ap of_case c.new-meter.ensures.same in
-    let kept = subst (λ (m : Meaning). hard_faults m c.args.instance.roster ≡ []) c.new-meter.ensures.same c.in_ok-held.ensures.kept in
-    let bound = c.in-Ok-raise_bound.bound in
-    let raised = subst (λ (h : HeldRoster). RaisesBound g.Log.Write.contents h.case c.args.from h.roster c.args.effort c.args.log.now c.raise_bound.new.log bound) held c.in-Ok-raise_bound.ensures.ok in
-    let total_is = c.total.ensures.total ∙ ap (λ (h : HeldRoster). penalty h.case h.roster) held in
-    let writes = subst (λ n. Writes g.Out.Write.contents c.args.output.now c.write_bound.new.output (bound_text n bound)) total_is c.in_ok-write_bound-in-Ok-raise_bound.ensures.ok in
-    bound_ends c.args.effort c.args.from c.args.instance.case c.args.instance.roster output log {X = Unit {0}} bound (Ok tt) kept raised writes tt
 
 pub returns : goal.returns
 returns g c =
-    let output : Output g.row.Out.Denot = record { contents = g.Out.Write.contents; before = c.args.output.now; after = c.args.output.now } in
-    let log : Output g.row.Log.Denot = record { contents = g.Log.Write.contents; before = c.args.log.now; after = c.raise_bound.new.log } in
-    let of_case : Meaning → HeldRoster = λ m. record { case = m; roster = c.args.instance.roster } in
-    let held = c.in_ok-held.ensures.held ∙ ap of_case c.new-meter.ensures.same in
-    let kept = subst (λ (m : Meaning). hard_faults m c.args.instance.roster ≡ []) c.new-meter.ensures.same c.in_ok-held.ensures.kept in
-    let f = c.in-Err-LogFailed.field-0 in
-    let stops = subst (λ (h : HeldRoster). BoundLogStops g.Log.Write.contents h.case c.args.from h.roster c.args.effort c.args.log.now c.raise_bound.new.log f) held c.in-Err-LogFailed.ensures.err in
-    bound_stops c.args.effort c.args.from c.args.instance.case c.args.instance.roster output log f kept stops refl
+    let output : Output g.row.Out.Denot = record { contents = g.Out.Write.contents; before = c.args.output.now; after = c.report_raised_bound.new.output } in
+    let log : Output g.row.Log.Denot = record { contents = g.Log.Write.contents; before = c.args.log.now; after = c.report_raised_bound.new.log } in
+    let i = c.args.instance in
+    subst (λ (m : Meaning). Reports output log (IsBoundReport c.args.effort c.args.from m i.roster) m (outcome_of c.report_raised_bound.result)) c.new-meter.ensures.same c.report_raised_bound.ensures.reports

@@ -1,7 +1,7 @@
 use Rattle.std.proofs.Common.{◌<◌, ◌+◌, ◌++◌, List, arith, drop, flat_map, get_or, length, subst, sym, take}
 use Rattle.roster_text.specs.Io.{Stops, Writes}
 use Rattle.roster_text.proofs.Texts.{Stops-after, Stops-append, Stops-from_in, Writes-append}
-use Rattle.roster_reports.proofs.WeekLemmas.{OnErr-always}
+use Rattle.roster_answers.proofs.AnswerLemmas.{OnErr-always}
 use Rattle.roster_who.specs.declared.taker.Taker.{Taker}
 use Rattle.roster_answers.specs.Answer.{who_line}
 use Rattle.roster_answers.proofs.WhoLemmas.{lines_more, lines_split}

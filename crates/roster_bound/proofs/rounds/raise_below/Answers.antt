@@ -1,12 +1,17 @@
-use Rattle.std.proofs.Common.{◌+◌, arith}
+use Rattle.std.proofs.Common.{◌∙◌, ◌+◌, arith, refl}
 use Rattle.std.proofs.lemmas.Result.{err_from_is_err_and}
 use Rattle.roster_laws.proofs.Frozen.{stays_self}
+use Rattle.roster_bound.specs.Branching.{IsNodesBound}
+use Rattle.roster_bound.proofs.BranchingLaws.{branched_breaks, reached_by_prices, reached-end, reached-later, reached-raised, stops-later}
 use Rattle.roster_bound.proofs.Counted.{branching_counted, branching_fits_meter, branching_within, branchings_within}
-use Rattle.roster_bound.proofs.BoundLogLaws.{branched_breaks, reached-later, reached-raised, stops-later}
-use Rattle.roster_bound.proofs.NodeLaws.{bound_of_all}
-use Rattle.roster_bound.proofs.RoundLaws.{made_branched, made_later}
+use Rattle.roster_bound.proofs.NodeLaws.{bound_of_all, root_is, some_node}
 use Rattle.roster_bound.proofs.rounds.raise_below.Goals as goal
 use Rattle.roster_prices.specs.LowerBounds.{IsLowerBound}
+
+pub bound-bound-requires : goal.bound-bound-requires
+bound-bound-requires g c =
+    let b = c.args.top.now.base.now in
+    some_node b.case.now b.from b.given.now c.branch_least-is_branched.new.space.nodes.items.items c.branch_least-is_branched.ensures.nodes
 
 pub branch_least-is_branched-requires-clause-room : goal.branch_least-is_branched-requires-clause-room
 branch_least-is_branched-requires-clause-room g c =
@@ -18,10 +23,11 @@ returns-in_err-sent-clause-err g c =
     let l = c.loop-branched in
     let b = c.args.top.now.base.now in
     let p = err_from_is_err_and c.from_residual-in_err-sent.result c.from_residual-in_err-sent.ensures.1 in
-    let below : IsLowerBound b.case.now b.from b.given.now c.bound-bound.result = bound_of_all b.case.now b.from b.given.now c.branch_least-is_branched.new.space.nodes.items.items c.bound-bound.result c.branch_least-is_branched.ensures.nodes c.bound-bound.ensures in
+    let nodes = c.branch_least-is_branched.new.space.nodes.items.items in
+    let least : IsNodesBound b.case.now b.from b.given.now c.bound-bound.result = record { nodes = nodes; are = c.branch_least-is_branched.ensures.nodes; least = c.bound-bound.ensures } in
     rw (p.1, p.2)
-    (stops-later g.W.Write.contents b.case.now b.from b.given.now c.args.log.now (record { rounds = c.args.effort.rounds; nodes = l.branched + 1 }) c.args.effort.nodes c.log_round.new.log _ (omega (arith, c.loop-branched-test.true))
-    (branched_breaks g.W.Write.contents b.case.now b.from b.given.now c.args.log.now c.args.effort.rounds l.branched c.bound-bound.result l.log c.log_round.new.log l.reached c.in_err-sent.field-0.0 l.invariant.reached c.if-bound-reached.false below c.in_err-sent.ensures.err))
+    (stops-later g.W.Write.contents b.case.now b.from b.given.now c.args.meter.now l.meter c.args.log.now (record { rounds = c.args.effort.rounds; nodes = l.branched + 1 }) c.args.effort.nodes c.log_round.new.log _ (omega (arith, c.loop-branched-test.true))
+    (branched_breaks g.W.Write.contents b.case.now b.from b.given.now c.args.meter.now l.meter c.args.log.now c.args.effort.rounds l.branched c.bound-bound.result l.meter l.log c.log_round.new.log l.reached c.in_err-sent.field-0.0 l.invariant.reached c.if-bound-reached.false least c.in_err-sent.ensures.err))
 
 pub returns-in_err-sent-clause-counted : goal.returns-in_err-sent-clause-counted
 returns-in_err-sent-clause-counted g c =
@@ -32,13 +38,15 @@ pub loop-branched-preserved : goal.loop-branched-preserved
 loop-branched-preserved g c =
     let l = c.loop-branched in
     let b = c.args.top.now.base.now in
-    let below : IsLowerBound b.case.now b.from b.given.now c.bound-bound.result = bound_of_all b.case.now b.from b.given.now c.branch_least-is_branched.new.space.nodes.items.items c.bound-bound.result c.branch_least-is_branched.ensures.nodes c.bound-bound.ensures in
+    let nodes = c.branch_least-is_branched.new.space.nodes.items.items in
+    let least : IsNodesBound b.case.now b.from b.given.now c.bound-bound.result = record { nodes = nodes; are = c.branch_least-is_branched.ensures.nodes; least = c.bound-bound.ensures } in
+    let below : IsLowerBound b.case.now b.from b.given.now c.bound-bound.result = bound_of_all b.case.now b.from b.given.now nodes c.bound-bound.result c.branch_least-is_branched.ensures.nodes c.bound-bound.ensures.all in
     record {
-      reached = reached-raised g.W.Write.contents b.case.now b.from b.given.now c.args.log.now c.args.effort.rounds l.branched c.in_ok-sent.sent c.bound-bound.result l.log c.log_round.new.log l.reached l.invariant.reached c.if-bound-reached.false below c.in_ok-sent.ensures.ok;
+      reached = reached-raised g.W.Write.contents b.case.now b.from b.given.now c.args.meter.now c.branch_least-is_branched.new.meter c.args.log.now c.args.effort.rounds l.branched c.in_ok-sent.sent c.bound-bound.result l.meter l.log c.log_round.new.log l.reached
+          c.branch_least-is_branched.ensures.grows l.invariant.reached c.if-bound-reached.false least c.in_ok-sent.ensures.ok;
       below = below;
       nodes = c.branch_least-is_branched.ensures.nodes;
-      made = λ short. made_branched g.W.Write.contents b.case.now b.from b.given.now c.args.effort.rounds c.args.meter.now l.meter c.branch_least-is_branched.new.meter c.args.log.now l.log c.log_round.new.log
-          (record { round = c.args.effort.rounds + l.branched + 1; bound = c.bound-bound.result }) c.branch_least-is_branched.ensures.grows (omega arith) c.in_ok-sent.ensures.ok.writes (l.invariant.made (omega (arith, c.if-reached-top.false)));
+      same_nodes = c.branch_least-is_branched.ensures.same_nodes ∙ l.invariant.same_nodes;
       counted = branching_counted b.case.now c.args.effort.rounds l.branched c.args.meter.now l.meter l.invariant.counted c.branch_least-is_branched.new.meter c.branch_least-is_branched.ensures.counted;
       fits = c.branch_least-is_branched.ensures.fits;
     }
@@ -64,16 +72,62 @@ loop-branched-preserved-then-bound-reached g c =
     let l = c.loop-branched in
     let b = c.args.top.now.base.now in
     record {
-      reached = reached-later g.W.Write.contents b.case.now b.from b.given.now c.args.log.now (record { rounds = c.args.effort.rounds; nodes = l.branched }) (l.branched + 1) l.log l.reached (omega arith) l.invariant.reached;
+      reached = reached-later g.W.Write.contents b.case.now b.from b.given.now c.args.meter.now c.branch_least-is_branched.new.meter c.args.log.now (record { rounds = c.args.effort.rounds; nodes = l.branched }) (l.branched + 1) l.meter l.log l.reached (omega arith)
+          c.branch_least-is_branched.ensures.grows l.invariant.reached;
       below = l.invariant.below;
       nodes = c.branch_least-is_branched.ensures.nodes;
-      made = λ short. made_later g.W.Write.contents b.case.now b.from b.given.now c.args.effort.rounds c.args.meter.now l.meter c.branch_least-is_branched.new.meter c.args.log.now l.log c.branch_least-is_branched.ensures.grows (l.invariant.made short);
+      same_nodes = c.branch_least-is_branched.ensures.same_nodes ∙ l.invariant.same_nodes;
       counted = branching_counted b.case.now c.args.effort.rounds l.branched c.args.meter.now l.meter l.invariant.counted c.branch_least-is_branched.new.meter c.branch_least-is_branched.ensures.counted;
       fits = c.branch_least-is_branched.ensures.fits;
     }
 
-pub returns-then-not-is_branched-clause-made : goal.returns-then-not-is_branched-clause-made
-returns-then-not-is_branched-clause-made g c short =
+-- the log stays, and the meter has counted no less
+pub returns-then-not-is_branched-clause-ok : goal.returns-then-not-is_branched-clause-ok
+returns-then-not-is_branched-clause-ok g c =
     let l = c.loop-branched in
     let b = c.args.top.now.base.now in
-    made_later g.W.Write.contents b.case.now b.from b.given.now c.args.effort.rounds c.args.meter.now l.meter c.branch_least-is_branched.new.meter c.args.log.now l.log c.branch_least-is_branched.ensures.grows (l.invariant.made short)
+    reached-end g.W.Write.contents b.case.now b.from b.given.now c.args.meter.now c.branch_least-is_branched.new.meter c.args.log.now c.args.effort l.log l.reached
+    (reached-later g.W.Write.contents b.case.now b.from b.given.now c.args.meter.now c.branch_least-is_branched.new.meter c.args.log.now (record { rounds = c.args.effort.rounds; nodes = l.branched }) c.args.effort.nodes l.meter l.log l.reached
+    (omega (arith, c.loop-branched-test.true)) c.branch_least-is_branched.ensures.grows l.invariant.reached)
+
+pub returns-then-reached-top-clause-ok : goal.returns-then-reached-top-clause-ok
+returns-then-reached-top-clause-ok g c =
+    let l = c.loop-branched in
+    let b = c.args.top.now.base.now in
+    reached-end g.W.Write.contents b.case.now b.from b.given.now c.args.meter.now l.meter c.args.log.now c.args.effort l.log l.reached
+    (reached-later g.W.Write.contents b.case.now b.from b.given.now c.args.meter.now l.meter c.args.log.now (record { rounds = c.args.effort.rounds; nodes = l.branched }) c.args.effort.nodes l.meter l.log l.reached
+    (omega (arith, c.loop-branched-test.true)) (omega arith) l.invariant.reached)
+
+pub returns-clause-ok : goal.returns-clause-ok
+returns-clause-ok g c =
+    let l = c.loop-branched in
+    let b = c.args.top.now.base.now in
+    reached-end g.W.Write.contents b.case.now b.from b.given.now c.args.meter.now l.meter c.args.log.now c.args.effort l.log l.reached
+    (reached-later g.W.Write.contents b.case.now b.from b.given.now c.args.meter.now l.meter c.args.log.now (record { rounds = c.args.effort.rounds; nodes = l.branched }) c.args.effort.nodes l.meter l.log l.reached
+    (omega (arith, l.auto.branched-end)) (omega arith) l.invariant.reached)
+
+-- the root has all rosters
+pub loop-branched-init : goal.loop-branched-init
+loop-branched-init g c =
+    let b = c.args.top.now.base.now in
+    let reached = c.in_ok-reached.reached in
+    let ok = c.in_ok-reached.ensures.ok in
+    record {
+      reached = ok;
+      below = c.in_ok-reached.ensures.below;
+      nodes = root_is b.case.now b.from b.given.now reached.bound c.begin.new.self.items.items c.in_ok-reached.ensures.below
+          (reached_by_prices g.W.Write.contents b.case.now b.from b.given.now c.args.effort.rounds c.args.meter.now c.make_rounds.new.meter c.args.log.now c.make_rounds.new.log reached ok) (c.if-not-begin.ensures.root refl);
+      same_nodes = c.begin.ensures.same_capacity;
+      counted = omega (arith, c.in_ok-reached.ensures.counted);
+      fits = c.in_ok-reached.ensures.fits;
+    }
+
+pub returns-then-reached-top-clause-within : goal.returns-then-reached-top-clause-within
+returns-then-reached-top-clause-within g c =
+    let b = c.args.top.now.base.now in
+    omega (arith, c.loop-branched.invariant.below b.given.now b.fits c.args.top.now.keeps (stays_self b.case.now b.from b.given.now), c.args.top.now.total_is)
+
+pub returns-clause-counted : goal.returns-clause-counted
+returns-clause-counted g c =
+    let l = c.loop-branched in
+    branchings_within c.args.top.now.base.now.case.now c.args.effort.rounds l.branched c.args.meter.now l.meter l.invariant.counted c.args.effort.nodes (omega (arith, l.auto.branched-end))

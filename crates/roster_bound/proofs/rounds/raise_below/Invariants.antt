@@ -1,19 +1,20 @@
 -- The branchings so far are made: the nodes contain all rosters, and the lines so far are sent.
-use Rattle.std.proofs.Common.{◌+◌, ◌*◌, ◌<◌, ◌≤◌}
+use Rattle.std.proofs.Common.{◌≡◌, ◌+◌, ◌*◌, ◌≤◌}
 use Rattle.roster_laws.specs.Greatest.{extensions_in}
-use Rattle.roster_bound.specs.BoundLogs.{HasReached, node_rounds}
+use Rattle.roster_bound.specs.BoundLogs.{node_rounds}
+use Rattle.roster_bound.specs.BoundRuns.{HasReached}
 use Rattle.roster_bound.specs.Branching.{AreNodesOf}
-use Rattle.roster_bound.specs.Rounds.{AreDone}
+use Rattle.roster_bound.specs.NodeCapacity.{nodes_capacity}
 use Rattle.roster_prices.specs.Workspaces.{FitsBound}
 use Rattle.roster_prices.specs.LowerBounds.{IsLowerBound}
 use Rattle.roster_bound.proofs.rounds.raise_below.Given as goal
 
 abbrev pub invariant-loop-branched : goal.invariant-loop-branched
 invariant-loop-branched g l = record {
-  reached : HasReached g.W.Write.contents l.top.base.now.case.now l.top.base.now.from l.top.base.now.given.now (record { rounds = l.effort.rounds; nodes = l.branched }) l.fn.log l.log l.reached;
+  reached : HasReached g.W.Write.contents l.top.base.now.case.now l.top.base.now.from l.top.base.now.given.now (record { rounds = l.effort.rounds; nodes = l.branched }) l.fn.meter l.meter l.fn.log l.log l.reached;
   below : IsLowerBound l.top.base.now.case.now l.top.base.now.from l.top.base.now.given.now l.reached.bound;
   nodes : AreNodesOf l.top.base.now.case.now l.top.base.now.from l.top.base.now.given.now l.space.nodes.items.items;
-  made : l.reached.bound < l.top.total → AreDone g.W.Write.contents l.top.base.now.case.now l.top.base.now.from l.top.base.now.given.now l.effort.rounds l.fn.meter l.meter l.fn.log l.log;
+  same_nodes : nodes_capacity l.space.nodes ≡ nodes_capacity l.fn.space.nodes;
   counted : l.meter ≤ l.fn.meter + extensions_in l.top.base.now.case.now (l.effort.rounds + l.branched * (2 * node_rounds));
   fits : FitsBound l.top.base.now.case.now l.space.bounds;
 }

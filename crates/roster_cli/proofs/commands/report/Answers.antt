@@ -1,6 +1,7 @@
 use Rattle.std.proofs.Common.{ap, false, refl, subst, sym}
+use Rattle.roster_instance.specs.Meaning.{Meaning}
 use Rattle.roster_case.specs.Shown.{weeks_text}
-use Rattle.roster_answers.specs.Answer.{IsWhoReport, Output, best_report, cost_report, improve_report, names_in, outcome_of, plain}
+use Rattle.roster_answers.specs.Answer.{IsWhoReport, Output, Reports, best_report, cost_report, improve_report, names_in, outcome_of, plain}
 use Rattle.roster_cli.specs.Answer.{IsPlanReport, IsPolishReport, IsReportIn}
 use Rattle.roster_reports.specs.Lines.{sizes_text}
 use Rattle.roster_answers.proofs.AnswerLemmas.{plain_ends, silent_log}
@@ -61,7 +62,10 @@ returns-in-Polish g c =
 
 pub returns-in-Plan : goal.returns-in-Plan
 returns-in-Plan g c =
-    let made = c.report_plan.ensures in
+    let output : Output g.row.Out.Denot = record { contents = g.Out.Write.contents; before = c.args.output.now; after = c.report_plan.new.output } in
+    let log : Output g.row.Log.Denot = record { contents = g.Log.Write.contents; before = c.args.log.now; after = c.report_plan.new.log } in
+    let asked = c.searches_for-in-Plan.result in
+    let made = subst (λ (m : Meaning). Reports output log (IsPlanReport asked c.in-Plan.from false m c.args.instance.roster) m (outcome_of c.report_plan.result)) c.new-meter.ensures.same c.report_plan.ensures.reports in
     record { report = made.report; is = subst (λ x. IsReportIn x c.args.instance.case c.args.instance.roster made.report) (sym c.in-Plan.is) (subst (λ n. IsPlanReport n c.in-Plan.from false c.args.instance.case c.args.instance.roster made.report) c.searches_for-in-Plan.ensures made.is); ends = made.ends; logged = made.logged }
 
 pub returns : goal.returns

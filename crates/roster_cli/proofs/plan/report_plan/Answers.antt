@@ -1,81 +1,94 @@
-use Rattle.std.proofs.Common.{◌≡◌, ◌∙◌, ◌≤◌, [], ℕ, Bool, ap, arith, refl, subst, sym, true}
-use Rattle.std.specs.Prelude.{IfErr, OnOk}
+use Rattle.std.proofs.Common.{◌≡◌, ◌∙◌, ◌*◌, ◌≤◌, [], ℕ, Bool, None, Option, ap, arith, false, refl, subst, sym}
+use Rattle.std.specs.Prelude.{IfErr, OnOk, min}
 use Rattle.std.proofs.lemmas.Result.{err_from_is_err_and}
 use Rattle.roster_text.specs.Io.{Writes}
 use Rattle.roster_case.specs.Held.{HeldRoster}
 use Rattle.roster_case.specs.Shown.{weeks_text}
 use Rattle.roster_rules.specs.HardRules.{hard_faults}
 use Rattle.roster_rules.proofs.HardLemmas.{none_of-none}
-use Rattle.roster_instance.specs.Meaning.{Meaning}
-use Rattle.roster_instance.specs.Rosters.{Rows, fits_case}
+use Rattle.roster_rules.specs.declared.fault.HardFault.{HardFault}
+use Rattle.roster_instance.specs.Faults.{first_fault, is_none_of}
+use Rattle.roster_instance.specs.Meaning.{Meaning, day_count}
+use Rattle.roster_instance.specs.Rosters.{Rows}
 use Rattle.roster_costs.specs.Irreparable.{irreparable}
 use Rattle.roster_costs.specs.Minimums.{missing}
 use Rattle.roster_polish.specs.Plans.{IsPlanned}
-use Rattle.roster_polish.specs.Polished.{PolishLogStops, Polishes}
+use Rattle.roster_polish.specs.Polished.{PolishLogStops, Polishes, most_searches}
 use Rattle.roster_polish.specs.declared.run.Course.{Course}
 use Rattle.roster_answers.specs.Answer.{Output, StopsOutput}
-use Rattle.roster_cli.specs.Answer.{IsUnfound}
 use Rattle.roster_answers.specs.declared.fault.Fault.TheVariants as fault
-use Rattle.roster_cli.proofs.PlanLemmas.{plan_ends, plan_refused, plan_roomless, plan_stops, plan_unfound}
+use Rattle.roster_cli.proofs.PlanLemmas.{plan_ends, plan_refused, plan_roomless, plan_stops, plan_unfound, unfound_after, written_after}
 use Rattle.roster_cli.proofs.plan.report_plan.Given as given
 use Rattle.roster_cli.proofs.plan.report_plan.Goals as goal
-use Rattle.roster_cli.proofs.plan.report_plan.Goals.{After-find_roster-left, After-new-meter, After-polish_found}
+use Rattle.roster_cli.proofs.plan.report_plan.Goals.{After-find_roster-left, After-polish_found}
 
-pub returns-in-Some : goal.returns-in-Some
-returns-in-Some g c =
+pub returns-in-Some-clause-reports : goal.returns-in-Some-clause-reports
+returns-in-Some-clause-reports g c =
     let output : Output g.row.Out.Denot = record { contents = g.Out.Write.contents; before = c.args.output.now; after = c.args.output.now } in
     let log : Output g.row.Log.Denot = record { contents = g.Log.Write.contents; before = c.args.log.now; after = c.args.log.now } in
     plan_refused c.args.course.now.searches c.args.course.now.from c.args.course.now.kicks_alone c.args.instance.case c.args.instance.roster output log (fault.Hard c.in-Some.fault c.into_case.result) (sym c.in-Some.ensures, c.into_case.ensures) refl refl
 
 -- nothing in the frozen weeks is beyond repair
-repairable : (g : given.Over) (c : After-new-meter g) → irreparable c.args.instance.case c.args.course.now.from c.args.instance.roster ≡ []
-repairable g c = none_of-none (irreparable c.args.instance.case c.args.course.now.from c.args.instance.roster) (sym c.first_irreparable.ensures ∙ c.in_default.is)
+repairable : (c : Meaning) (from : ℕ) (r : Rows) (found : Option HardFault) → found ≡ first_fault (irreparable c from r) → found ≡ None → irreparable c from r ≡ []
+repairable c from r found is none = none_of-none (irreparable c from r) (sym is ∙ none)
 
-pub returns-in_default-for_roster : goal.returns-in_default-for_roster
-returns-in_default-for_roster g c =
+pub returns-in_default-for_roster-clause-reports : goal.returns-in_default-for_roster-clause-reports
+returns-in_default-for_roster-clause-reports g c =
     let output : Output g.row.Out.Denot = record { contents = g.Out.Write.contents; before = c.args.output.now; after = c.args.output.now } in
     let log : Output g.row.Log.Denot = record { contents = g.Log.Write.contents; before = c.args.log.now; after = c.args.log.now } in
     plan_roomless c.args.course.now.searches c.args.course.now.from c.args.course.now.kicks_alone c.args.instance.case c.args.instance.roster output log
-    (repairable g (goal.at.returns-in_default-for_roster g c).After-new-meter) refl refl
+    (repairable c.args.instance.case c.args.course.now.from c.args.instance.roster c.first_irreparable.result c.first_irreparable.ensures c.in_default.is) refl refl
 
 pub find_roster-left-requires-clause-repairable : goal.find_roster-left-requires-clause-repairable
 find_roster-left-requires-clause-repairable g c =
-    rw (c.new-meter.ensures.same, ap (λ (x : Course). x.from) c.within_capacity-course.ensures) (repairable g (goal.at.find_roster-left-requires-clause-repairable g c).After-new-meter)
+    rw (ap (λ (x : Course). x.from) c.within_capacity-course.ensures) (repairable c.args.instance.case c.args.course.now.from c.args.instance.roster c.first_irreparable.result c.first_irreparable.ensures c.in_default.is)
 
 -- ---- the roster that was found
 
-fits : (g : given.Over) (c : After-find_roster-left g) → fits_case c.args.instance.case c.find_roster-left.new.roster ≡ true
-fits g c = subst (λ (m : Meaning). fits_case m c.find_roster-left.new.roster ≡ true) c.new-meter.ensures.same c.find_roster-left.ensures.roster
+repaired : (g : given.Over) (c : After-find_roster-left g) → irreparable c.args.instance.case c.args.course.now.from c.args.instance.roster ≡ []
+repaired g c = repairable c.args.instance.case c.args.course.now.from c.args.instance.roster c.first_irreparable.result c.first_irreparable.ensures c.in_default.is
 
 planned : (g : given.Over) (c : After-find_roster-left g) → IsPlanned c.args.instance.case c.args.course.now.from c.args.instance.roster c.find_roster-left.new.roster
 planned g c =
     let given = c.args.instance.roster in
     let nearest = c.find_roster-left.new.roster in
-    subst (λ (x : Course). IsPlanned c.args.instance.case x.from given nearest) c.within_capacity-course.ensures (subst (λ (m : Meaning). IsPlanned m c.within_capacity-course.result.from given nearest) c.new-meter.ensures.same c.find_roster-left.ensures.planned)
+    subst (λ (x : Course). IsPlanned c.args.instance.case x.from given nearest) c.within_capacity-course.ensures c.find_roster-left.ensures.planned
 
 few : (g : given.Over) (c : After-find_roster-left g) → c.find_roster-left.result ≤ c.args.course.now.searches
 few g c = omega (arith, c.find_roster-left.ensures.spends.fewer, ap (λ (x : Course). x.searches) c.within_capacity-course.ensures)
 
-pub returns-in_err-held : goal.returns-in_err-held
-returns-in_err-held g c =
+-- if it breaks a hard rule, all searches were made
+searched : (g : given.Over) (c : After-find_roster-left g) → is_none_of (hard_faults c.args.instance.case c.find_roster-left.new.roster) ≡ false
+    → min c.args.course.now.searches most_searches * day_count c.args.instance.case ≤ c.find_roster-left.new.meter
+searched g c breaks =
+    let k = c.args.instance.case in
+    let none : c.find_roster-left.result ≡ 0 = c.find_roster-left.ensures.given_up breaks in
+    let asked = ap (λ (x : Course). x.searches * day_count k) c.within_capacity-course.ensures in
+    omega (arith, c.requires, c.find_roster-left.ensures.made, ap (λ n. n * day_count k) none, asked)
+
+pub returns-in_err-held-clause-made : goal.returns-in_err-held-clause-made
+returns-in_err-held-clause-made g c =
+    let at = goal.at.returns-in_err-held-clause-made g c in
+    let p = err_from_is_err_and c.from_residual.result c.from_residual.ensures.1 in
+    rw (p.1, p.2) (unfound_after c.args.instance.case c.args.course.now.searches c.find_roster-left.new.meter (hard_faults c.args.instance.case c.find_roster-left.new.roster) c.in_err-held.field-0.0 c.in_err-held.ensures.unfound (searched g at.After-find_roster-left))
+
+pub returns-in_err-held-clause-reports : goal.returns-in_err-held-clause-reports
+returns-in_err-held-clause-reports g c =
     let output : Output g.row.Out.Denot = record { contents = g.Out.Write.contents; before = c.args.output.now; after = c.args.output.now } in
     let log : Output g.row.Log.Denot = record { contents = g.Log.Write.contents; before = c.args.log.now; after = c.args.log.now } in
-    let at = goal.at.returns-in_err-held g c in
+    let at = goal.at.returns-in_err-held-clause-reports g c in
     let nearest = c.find_roster-left.new.roster in
     let p = err_from_is_err_and c.from_residual.result c.from_residual.ensures.1 in
-    let unfound = subst (λ (m : Meaning). IsUnfound m (hard_faults m nearest) c.in_err-held.field-0.0) c.new-meter.ensures.same c.in_err-held.ensures.unfound in
     rw (p.1, p.2) (plan_unfound c.args.course.now.searches c.args.course.now.from c.args.course.now.kicks_alone c.args.instance.case c.args.instance.roster output log
-    (repairable g at.After-new-meter) nearest (λ e. fits g at.After-find_roster-left) (planned g at.After-find_roster-left) c.in_err-held.field-0.0 unfound refl refl)
+    (repaired g at.After-find_roster-left) nearest (λ e. c.find_roster-left.ensures.roster) (planned g at.After-find_roster-left) c.in_err-held.field-0.0 c.in_err-held.ensures.unfound refl refl)
 
 -- ---- the run from there
 
 held_is : (g : given.Over) (c : After-polish_found g) → c.in_ok-held.held ≡ record { case = c.args.instance.case; roster = c.find_roster-left.new.roster }
-held_is g c =
-    let of_case : Meaning → HeldRoster = λ m. record { case = m; roster = c.find_roster-left.new.roster } in
-    c.in_ok-held.ensures.held ∙ ap of_case c.new-meter.ensures.same
+held_is g c = c.in_ok-held.ensures.held
 
 kept : (g : given.Over) (c : After-polish_found g) → hard_faults c.args.instance.case c.find_roster-left.new.roster ≡ []
-kept g c = subst (λ (m : Meaning). hard_faults m c.find_roster-left.new.roster ≡ []) c.new-meter.ensures.same c.in_ok-held.ensures.kept
+kept g c = c.in_ok-held.ensures.kept
 
 -- what holds for the held roster, the course and the number at the beginning of the log holds for what was
 -- given and found
@@ -85,16 +98,15 @@ as_given : (g : given.Over) (c : After-polish_found g) (P : (m : Meaning) (from 
 as_given g c P polished =
     let k = c.args.instance.case in
     let nearest = c.find_roster-left.new.roster in
-    let start = c.missing-start.ensures ∙ ap (λ (m : Meaning). missing m c.args.instance.roster) c.new-meter.ensures.same in
     let of_held = subst (λ (h : HeldRoster). P h.case c.within_capacity-course.result.from h.roster c.missing-start.result c.within_capacity-course.result.kicks_alone) (held_is g c) polished in
     let of_course = subst (λ (x : Course). P k x.from nearest c.missing-start.result x.kicks_alone) c.within_capacity-course.ensures of_held in
-    subst (λ n. P k c.args.course.now.from nearest n c.args.course.now.kicks_alone) start of_course
+    subst (λ n. P k c.args.course.now.from nearest n c.args.course.now.kicks_alone) c.missing-start.ensures of_course
 
-pub returns-in-Ok-polish_found : goal.returns-in-Ok-polish_found
-returns-in-Ok-polish_found g c =
+pub returns-in-Ok-polish_found-clause-reports : goal.returns-in-Ok-polish_found-clause-reports
+returns-in-Ok-polish_found-clause-reports g c =
     let output : Output g.row.Out.Denot = record { contents = g.Out.Write.contents; before = c.args.output.now; after = c.show_weeks.new.output } in
     let log : Output g.row.Log.Denot = record { contents = g.Log.Write.contents; before = c.args.log.now; after = c.polish_found.new.log } in
-    let at = goal.at.returns-in-Ok-polish_found g c in
+    let at = goal.at.returns-in-Ok-polish_found-clause-reports g c in
     let last = c.polish_found.new.held.roster in
     let polished = c.in-Ok-polish_found.field-0 in
     let polishes = as_given g at.After-polish_found (λ m from r start alone. Polishes g.Log.Write.contents m from r start c.find_roster-left.result alone last c.args.log.now c.polish_found.new.log polished) c.in-Ok-polish_found.ensures.ok in
@@ -103,15 +115,19 @@ returns-in-Ok-polish_found g c =
     let writes = subst (λ (m : Meaning). OnOk shown (Writes g.Out.Write.contents c.args.output.now c.show_weeks.new.output (weeks_text m last))) case_is (subst (λ r. OnOk shown (Writes g.Out.Write.contents c.args.output.now c.show_weeks.new.output (weeks_text c.case.result.now r))) c.roster.ensures.roster c.show_weeks.ensures.ok) in
     let stops = subst (λ (m : Meaning). IfErr shown (StopsOutput g.Out.Write.contents c.args.output.now c.show_weeks.new.output (weeks_text m last))) case_is (subst (λ r. IfErr shown (StopsOutput g.Out.Write.contents c.args.output.now c.show_weeks.new.output (weeks_text c.case.result.now r))) c.roster.ensures.roster c.show_weeks.ensures.err) in
     plan_ends c.args.course.now.searches c.args.course.now.from c.args.course.now.kicks_alone c.args.instance.case c.args.instance.roster output log
-    (repairable g at.After-new-meter) c.find_roster-left.new.roster (λ e. fits g at.After-find_roster-left) (planned g at.After-find_roster-left) (kept g at.After-polish_found) c.find_roster-left.result (few g at.After-find_roster-left) last polished shown polishes writes stops
+    (repaired g at.After-find_roster-left) c.find_roster-left.new.roster (λ e. c.find_roster-left.ensures.roster) (planned g at.After-find_roster-left) (kept g at.After-polish_found) c.find_roster-left.result (few g at.After-find_roster-left) last polished shown polishes writes stops
 
-pub returns : goal.returns
-returns g c =
+pub returns-in-Ok-polish_found-clause-made : goal.returns-in-Ok-polish_found-clause-made
+returns-in-Ok-polish_found-clause-made g c =
+    written_after c.args.instance.case c.args.course.now.searches c.polish_found.new.meter g.Out.Write.contents c.args.output.now c.show_weeks.new.output (weeks_text c.case.result.now c.roster.result.now) c.show_weeks.result c.show_weeks.ensures.err
+
+pub returns-clause-reports : goal.returns-clause-reports
+returns-clause-reports g c =
     let output : Output g.row.Out.Denot = record { contents = g.Out.Write.contents; before = c.args.output.now; after = c.args.output.now } in
     let log : Output g.row.Log.Denot = record { contents = g.Log.Write.contents; before = c.args.log.now; after = c.polish_found.new.log } in
-    let at = goal.at.returns g c in
+    let at = goal.at.returns-clause-reports g c in
     let last = c.polish_found.new.held.roster in
     let f = c.in-Err-LogFailed.field-0 in
     let stops = as_given g at.After-polish_found (λ m from r start alone. PolishLogStops g.Log.Write.contents m from r start c.find_roster-left.result alone last c.args.log.now c.polish_found.new.log f) c.in-Err-LogFailed.ensures.err in
     plan_stops c.args.course.now.searches c.args.course.now.from c.args.course.now.kicks_alone c.args.instance.case c.args.instance.roster output log
-    (repairable g at.After-new-meter) c.find_roster-left.new.roster (λ e. fits g at.After-find_roster-left) (planned g at.After-find_roster-left) (kept g at.After-polish_found) c.find_roster-left.result (few g at.After-find_roster-left) last f stops refl
+    (repaired g at.After-find_roster-left) c.find_roster-left.new.roster (λ e. c.find_roster-left.ensures.roster) (planned g at.After-find_roster-left) (kept g at.After-polish_found) c.find_roster-left.result (few g at.After-find_roster-left) last f stops refl

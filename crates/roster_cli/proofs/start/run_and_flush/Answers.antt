@@ -1,7 +1,17 @@
 use Rattle.std.proofs.Common.{ap}
 use Rattle.std.specs.Io.Buffered.{writer_buffer, writer_contents}
-use Rattle.roster_cli.proofs.StartLemmas.{done_once_flushed}
+use Rattle.roster_cli.proofs.StartLemmas.{done_once_flushed, fails_to_send, stops_over}
 use Rattle.roster_cli.proofs.start.run_and_flush.Goals as goal
+
+pub returns-then-status-ne0 : goal.returns-then-status-ne0
+returns-then-status-ne0 g c = record {
+  done = λ zero. absurd (c.if-status-ne0.true zero);
+  stopped = λ some.
+      stops_over (writer_contents g.Out.Write.contents) writer_buffer g.Log.Write.contents c.args.request.now.command g.In.Read.remaining
+      c.new-input.result c.run-status.new.input c.new-watched.result c.run-status.new.output c.args.log.now c.run-status.new.log
+      c.args.input c.args.output c.into_inner-output.result c.run-status.result
+      (c.run-status.ensures.refused some) c.new-input.ensures c.new-watched.ensures c.into_inner-output.ensures;
+}
 
 pub returns : goal.returns
 returns g c = record {
@@ -13,4 +23,11 @@ returns g c = record {
       (c.run-status.ensures.done c.if-status-ne0.false) (c.run-status.ensures.silent c.if-status-ne0.false)
       (ap (λ w. w.inner) c.new-input.ensures) (ap (λ w. w.inner) c.new-watched.ensures) c.into_inner-output.ensures
       c.flush.ensures.bytes sent.0 sent.1;
+  stopped = λ some.
+      let failed = c.flush.ensures.failed some in
+      fails_to_send (writer_contents g.Out.Write.contents) writer_buffer g.Log.Write.contents c.args.request.now.command g.In.Read.remaining
+      c.new-input.result c.run-status.new.input c.new-watched.result c.run-status.new.output c.args.log.now c.run-status.new.log
+      c.args.input c.args.output c.into_inner-output.result c.flush.result.1 c.flush.new.log c.flush.result.0
+      (c.run-status.ensures.done c.if-status-ne0.false) c.new-input.ensures c.new-watched.ensures c.into_inner-output.ensures
+      c.flush.ensures.bytes failed.0 failed.1;
 }

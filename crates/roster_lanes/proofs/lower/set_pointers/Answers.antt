@@ -5,12 +5,12 @@ use Rattle.roster_lanes.proofs.lower.set_pointers.Goals as goal
 pub overflow_cast-pointers : goal.overflow_cast-pointers
 overflow_cast-pointers c =
     let p = array_whole c.args.labels.now c.requires.labels in
-    let q = array_whole c.args.old.now c.told-old in
-    rw (p, q) (casts_fit _ (λ x. x) _ c.args.labels.now c.args.old.now c.requires.labels c.told-old (search rules) (search rules))
+    let q = array_whole c.args.old.now (search rules) in
+    rw (p, q) (casts_fit _ (λ x. x) _ c.args.labels.now c.args.old.now c.requires.labels (search rules) (search rules) (search rules))
 
 pub returns : goal.returns
 returns c i lt =
     let p = array_whole c.args.labels.now c.requires.labels in
-    let q = array_whole c.args.old.now c.told-old in
+    let q = array_whole c.args.old.now (search rules) in
     let r = array_whole c.args.pointers.now c.requires.pointers in
-    rw (p, q, r) (chosen_at _ _ refl refl c.args.labels.now c.args.old.now c.args.pointers.now c.args.pointer i c.requires.labels c.told-old c.requires.pointers lt)
+    rw (p, q, r) (chosen_at _ _ refl refl c.args.labels.now c.args.old.now c.args.pointers.now c.args.pointer i c.requires.labels (search rules) c.requires.pointers lt)

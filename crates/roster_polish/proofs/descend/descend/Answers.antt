@@ -1,4 +1,4 @@
-use Rattle.std.proofs.Common.{◌≡◌, ◌∙◌, ◌<◌, ◌≤◌, arith, inl, inr, refl, rules, subst, sym, true}
+use Rattle.std.proofs.Common.{◌≡◌, ◌≢◌, ◌∙◌, ◌++◌, ◌<◌, ◌≤◌, arith, inl, inr, refl, rules, subst, sym, true}
 use Rattle.std.proofs.lemmas.Bool.{true≢false}
 use Rattle.roster_instance.specs.Meaning.{Meaning}
 use Rattle.roster_offers.specs.Workspaces.{fits_space}
@@ -10,6 +10,9 @@ use Rattle.roster_polish.specs.declared.descend.Pass.{Pass}
 use Rattle.roster_polish.specs.declared.descend.Pass.TheVariants.{Changed, Stopped, Unchanged}
 use Rattle.roster_laws.specs.Settled.{HasBestRow}
 use Rattle.roster_polish.specs.Settled.{Spends}
+use Rattle.std.specs.List.{range_with_len}
+use Rattle.roster_polish.specs.Descents.{IsPass}
+use Rattle.roster_polish.proofs.Passes.{StepsTo, all_stepped, lead_then, no_steps, steps_then}
 use Rattle.roster_polish.proofs.Steps.{rest_fits_meter, spent_both, spent_none}
 use Rattle.roster_polish.proofs.descend.descend.Goals as goal
 use Rattle.roster_polish.proofs.descend.descend.Goals.{After-make_pass-end, else-first-eq0-via-then-first-eq0+else-eq, else-first-eq0-via-else-first-eq0, then-eq-2-via-then-eq-2, then-eq-2-via-else-eq-2+then-total-saturating_add}
@@ -17,6 +20,7 @@ use Rattle.roster_polish.proofs.descend.descend.Goals.{After-make_pass-end, else
 pub loop-pass-init : goal.loop-pass-init
 loop-pass-init g c = record {
   case = refl;
+  steps = no_steps c.args.held.now.case c.args.aim.from c.args.held.now.roster;
   frozen = stays_self c.args.held.now.case c.args.aim.from c.args.held.now.roster;
   first = inl refl;
   fallen = omega arith;
@@ -38,6 +42,18 @@ make_pass-end-requires g c =
     }
 
 -- ---- after a pass
+
+-- the pass, by the given case
+pass : (g : _) (c : After-make_pass-end g) → IsPass c.args.held.now.case c.args.aim.from c.loop-pass.first c.loop-pass.held.roster c.make_pass-end.new.held.roster c.make_pass-end.result
+pass g c =
+    let l = c.loop-pass in
+    subst (λ (m : Meaning). IsPass m c.args.aim.from l.first l.held.roster c.make_pass-end.new.held.roster c.make_pass-end.result) l.invariant.case c.make_pass-end.ensures.steps
+
+steps : (g : _) (c : After-make_pass-end g) → StepsTo c.args.held.now.case c.args.aim.from c.args.held.now.roster c.make_pass-end.new.held.roster
+steps g c =
+    let l = c.loop-pass in
+    let made = pass g c in
+    steps_then c.args.held.now.case c.args.aim.from c.args.held.now.roster l.held.roster c.make_pass-end.new.held.roster l.invariant.steps (range_with_len l.first made.count) made.steps
 
 frozen : (g : _) (c : After-make_pass-end g) → FrozenDaysStay c.args.held.now.case c.args.aim.from c.args.held.now.roster c.make_pass-end.new.held.roster
 frozen g c =
@@ -93,9 +109,13 @@ returns-then-eq g c =
     let unchanged : c.make_pass-end.result ≡ Unchanged = search rules in
     record {
       case = logged.case ∙ i.case;
-      settled = λ e n inside.
-          subst (λ (m : Meaning). HasBestRow m c.args.aim.from next n) i.case (logged.unchanged unchanged n (omega (arith, c.if-first-eq0.true)) (rw i.case inside));
-      given_up = λ e. absurd (true≢false e);
+      descent = record {
+        nurses = (steps g here).nurses;
+        steps = (steps g here).steps;
+        is_settled = λ e n inside.
+            subst (λ (m : Meaning). HasBestRow m c.args.aim.from next n) i.case (logged.unchanged unchanged n (omega (arith, c.if-first-eq0.true)) (rw i.case inside));
+        given_up = λ e. absurd (true≢false e);
+      };
       frozen = frozen g here;
       no_dearer = no_dearer g here;
       spends = spends g here;
@@ -108,11 +128,24 @@ returns-then-eq-2 g c =
     let here = (goal.at.returns-then-eq-2 g c).After-make_pass-end in
     record {
       case = c.make_pass-end.ensures.case ∙ c.loop-pass.invariant.case;
-      settled = λ e. absurd (true≢false (sym e));
-      given_up = λ e. elim c.then-eq-2.branch [
-        | then-eq-2-via-then-eq-2 w ↦ (let ended : c.make_pass-end.result ≡ Stopped = search rules in inl (c.make_pass-end.ensures.stopped ended))
-        | then-eq-2-via-else-eq-2+then-total-saturating_add w ↦ inr (inl (rw (← same g here) (omega (arith, w.total.ensures.total, w.if-total-saturating_add.true, w.saturating_add.ensures, w.total.type_inv))))
-      ];
+      descent = record {
+        nurses = c.loop-pass.invariant.steps.nurses ++ range_with_len c.loop-pass.first (pass g here).count;
+        steps = lead_then c.args.held.now.case c.args.aim.from c.args.held.now.roster c.loop-pass.held.roster c.make_pass-end.new.held.roster c.loop-pass.invariant.steps.nurses (range_with_len c.loop-pass.first (pass g here).count) c.loop-pass.invariant.steps.steps (pass g here).steps;
+        is_settled = λ e. absurd (true≢false (sym e));
+        given_up = λ e. elim c.then-eq-2.branch [
+          | then-eq-2-via-then-eq-2 w ↦ (let ended : c.make_pass-end.result ≡ Stopped = search rules in inl (c.make_pass-end.ensures.stopped ended))
+          | then-eq-2-via-else-eq-2+then-total-saturating_add w ↦ (
+              let going : c.make_pass-end.result ≢ Stopped = search rules in
+              let first : c.loop-pass.first ≡ 0 = elim c.loop-pass.invariant.first [
+                | inl begun ↦ absurd (omega (arith, begun, w.slack.ensures.first begun, w.total.type_inv, w.if-total-saturating_add.true, w.saturating_add.ensures))
+                | inr all ↦ all
+              ] in
+              inr (inl (
+                all_stepped c.args.held.now.case c.loop-pass.invariant.steps.nurses c.loop-pass.first (pass g here).count first ((pass g here).all first going),
+                rw (← same g here) (omega (arith, w.total.ensures.total, w.if-total-saturating_add.true, w.saturating_add.ensures, w.total.type_inv)),
+              )))
+        ];
+      };
       frozen = frozen g here;
       no_dearer = no_dearer g here;
       spends = spends g here;
@@ -127,6 +160,7 @@ loop-pass-preserved g c =
     let here = (goal.at.loop-pass-preserved g c).After-make_pass-end in
     record {
       case = c.make_pass-end.ensures.case ∙ c.loop-pass.invariant.case;
+      steps = steps g here;
       frozen = frozen g here;
       first = inr refl;
       fallen = elim l.invariant.first [
@@ -145,4 +179,12 @@ loop-pass-preserved g c =
 pub returns : goal.returns
 returns g c =
     let i = c.loop-pass.invariant in
-    record { case = i.case; settled = λ e. absurd (true≢false (sym e)); given_up = λ e. inr (inr (omega (arith, i.fallen, c.loop-pass-test.false))); frozen = i.frozen; no_dearer = i.no_dearer; spends = i.spends; fits = i.fits; recalls = i.recalls }
+    record {
+      case = i.case;
+      descent = record { nurses = i.steps.nurses; steps = i.steps.steps; is_settled = λ e. absurd (true≢false (sym e)); given_up = λ e. inr (inr (omega (arith, i.fallen, c.loop-pass-test.false))) };
+      frozen = i.frozen;
+      no_dearer = i.no_dearer;
+      spends = i.spends;
+      fits = i.fits;
+      recalls = i.recalls;
+    }

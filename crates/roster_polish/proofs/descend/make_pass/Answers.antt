@@ -6,8 +6,9 @@ use Rattle.roster_laws.specs.FrozenDays.{FrozenDaysStay}
 use Rattle.roster_laws.proofs.Frozen.{stays_on, stays_self}
 use Rattle.roster_rules.specs.AllowedRows.{best_row}
 use Rattle.roster_rules.specs.Improver.{step}
-use Rattle.roster_polish.proofs.Passes.{pass_begins, pass_differs, pass_is_round, pass_moves, pass_same, pass_stays}
+use Rattle.roster_polish.proofs.Passes.{is_pass, pass_begins, pass_differs, pass_is_round, pass_moves, pass_same, pass_stays}
 use Rattle.roster_polish.proofs.Steps.{spent_both, spent_none}
+use Rattle.roster_polish.specs.declared.descend.Pass.TheVariants.{Changed, Stopped, Unchanged}
 use Rattle.roster_polish.specs.Settled.{Spends}
 use Rattle.roster_polish.proofs.descend.make_pass.Goals as goal
 use Rattle.roster_polish.proofs.descend.make_pass.Goals.{then-step_within, else-step_within}
@@ -46,6 +47,12 @@ loop-nurse-preserved g c =
       recalls = subst (λ (m : Meaning). RecallsSearches m c.step_within.new.last) i.case logged.recalls;
     }
 
+-- ---- no search is left
+
+pub returns-then-searches-eq0-clause-steps : goal.returns-then-searches-eq0-clause-steps
+returns-then-searches-eq0-clause-steps g c =
+    is_pass c.args.held.now.case c.args.first.from c.args.held.now.roster c.args.first.nurse c.loop-nurse.held.roster c.loop-nurse.changed c.loop-nurse.nurse c.loop-nurse.invariant.pass Stopped (λ none going. absurd (going refl))
+
 -- ---- a whole round
 
 all_made : (first n end count : ℕ) → first ≡ 0 → (first ≤ end → n ≤ end) → end ≤ n → end ≡ count → n ≡ count
@@ -58,6 +65,11 @@ returns-then-changed-clause-round g c = λ none enough.
     let i = c.loop-nurse.invariant in
     pass_is_round c.args.held.now.case c.args.first.from c.args.held.now.roster c.args.first.nurse c.loop-nurse.held.roster c.loop-nurse.changed c.loop-nurse.nurse i.pass none
     (all_made c.args.first.nurse c.loop-nurse.nurse c.nurses-nurse-end.result (nurse_count c.args.held.now.case) none c.loop-nurse.auto.nurse-end c.loop-nurse-test.false (c.nurses-nurse-end.ensures.count ∙ ap nurse_count c.case.ensures))
+
+pub returns-then-changed-clause-steps : goal.returns-then-changed-clause-steps
+returns-then-changed-clause-steps g c =
+    is_pass c.args.held.now.case c.args.first.from c.args.held.now.roster c.args.first.nurse c.loop-nurse.held.roster c.loop-nurse.changed c.loop-nurse.nurse c.loop-nurse.invariant.pass Changed
+    (λ none going. all_made c.args.first.nurse c.loop-nurse.nurse c.nurses-nurse-end.result (nurse_count c.args.held.now.case) none c.loop-nurse.auto.nurse-end c.loop-nurse-test.false (c.nurses-nurse-end.ensures.count ∙ ap nurse_count c.case.ensures))
 
 pub returns-then-changed-clause-end : goal.returns-then-changed-clause-end
 returns-then-changed-clause-end g c = λ none enough.
@@ -72,6 +84,11 @@ returns-else-changed-clause-round g c = λ none enough.
     let i = c.loop-nurse.invariant in
     pass_is_round c.args.held.now.case c.args.first.from c.args.held.now.roster c.args.first.nurse c.loop-nurse.held.roster c.loop-nurse.changed c.loop-nurse.nurse i.pass none
     (all_made c.args.first.nurse c.loop-nurse.nurse c.nurses-nurse-end.result (nurse_count c.args.held.now.case) none c.loop-nurse.auto.nurse-end c.loop-nurse-test.false (c.nurses-nurse-end.ensures.count ∙ ap nurse_count c.case.ensures))
+
+pub returns-else-changed-clause-steps : goal.returns-else-changed-clause-steps
+returns-else-changed-clause-steps g c =
+    is_pass c.args.held.now.case c.args.first.from c.args.held.now.roster c.args.first.nurse c.loop-nurse.held.roster c.loop-nurse.changed c.loop-nurse.nurse c.loop-nurse.invariant.pass Unchanged
+    (λ none going. all_made c.args.first.nurse c.loop-nurse.nurse c.nurses-nurse-end.result (nurse_count c.args.held.now.case) none c.loop-nurse.auto.nurse-end c.loop-nurse-test.false (c.nurses-nurse-end.ensures.count ∙ ap nurse_count c.case.ensures))
 
 pub returns-else-changed-clause-end : goal.returns-else-changed-clause-end
 returns-else-changed-clause-end g c = λ none enough.

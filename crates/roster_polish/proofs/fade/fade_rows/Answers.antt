@@ -1,6 +1,10 @@
-use Rattle.std.proofs.Common.{arith, refl, subst, sym}
+use Rattle.std.proofs.Common.{◌∙◌, Option, ap, arith, is_some, not, refl, subst, sym}
+use Rattle.std.proofs.lemmas.Bool.{false_from_ne_true, true≢false}
+use Rattle.roster_rules.specs.HardRules.{keeps_hard}
+use Rattle.roster_rules.specs.declared.fault.HardFault.{HardFault}
 use Rattle.roster_laws.specs.FrozenDays.{FrozenDaysStay}
 use Rattle.roster_laws.proofs.Frozen.{stays_self}
+use Rattle.roster_polish.proofs.FadeRows.{kept_is_none}
 use Rattle.roster_polish.proofs.Fading.{faded_then, some_left}
 use Rattle.roster_polish.proofs.Memory.{fits_with}
 use Rattle.roster_polish.proofs.Steps.{spent_none}
@@ -44,3 +48,10 @@ loop-pass-preserved g c =
         fits = fits_with k space both.fits c.follow_cover.new.bounds space.last space.best c.follow_cover.ensures.fits both.fits.recalls both.fits.best;
       };
     }
+
+-- rows without a breach keep the hard rules
+pub returns-clause-breaks : goal.returns-clause-breaks
+returns-clause-breaks g c broken =
+    let k = c.args.base.now.case.now in
+    let faded = c.loop-pass.space.faded in
+    false_from_ne_true (keeps_hard k faded) (λ keeps. true≢false (sym (ap not broken) ∙ sym c.is_none.ensures ∙ ap (λ (o : Option HardFault). is_some o) (c.first_hard.ensures ∙ kept_is_none k faded keeps)))

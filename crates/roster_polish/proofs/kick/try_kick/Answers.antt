@@ -2,6 +2,7 @@ use Rattle.std.proofs.Common.{◌≡◌, ◌∙◌, ◌≤◌, subst, sym}
 use Rattle.roster_instance.specs.Meaning.{Meaning}
 use Rattle.roster_rules.specs.Penalties.{penalty}
 use Rattle.roster_laws.specs.FrozenDays.{FrozenDaysStay}
+use Rattle.roster_polish.specs.Descents.{StaysIfNoDearer}
 use Rattle.roster_polish.specs.Polished.{FitsPolish}
 use Rattle.roster_polish.specs.Settled.{IsSettled, Spends}
 use Rattle.roster_polish.proofs.Steps.{rest_fits_meter, spent_both}
@@ -53,5 +54,11 @@ returns g c =
         spends = spent_both k c.args.meter.now c.args.kicking.now.searches.left first.new.meter first.new.kicking.searches.left last.new.meter last.new.searches.left kicked.spends
             (subst (λ (m : Meaning). Spends m first.new.meter first.new.kicking.searches.left last.new.meter last.new.searches.left) kicked.case tried.spends);
         fits = subst (λ (m : Meaning). FitsPolish m last.new.space) kicked.case tried.fits;
+      };
+      decided = record {
+        kicked = first.new.held.roster;
+        frozen = kicked.frozen;
+        stays = subst (λ n. StaysIfNoDearer k week n last.new.searches.left first.new.held.roster next last.result) c.total-penalty.ensures.total
+            (subst (λ (m : Meaning). StaysIfNoDearer m week c.total-penalty.result last.new.searches.left first.new.held.roster next last.result) kicked.case last.ensures.decided);
       };
     }

@@ -1,15 +1,17 @@
-use Rattle.std.proofs.Common.{◌≡◌, ◌∙◌, ap, arith, refl, rules, sym, true}
-use Rattle.std.proofs.lemmas.Bool.{true≢false}
+use Rattle.std.proofs.Common.{◌≡◌, ◌∙◌, ap, arith, refl, rules, subst, sym, true}
+use Rattle.std.proofs.lemmas.Bool.{and_left, and_right, le-leb, lt-leb, true≢false}
 use Rattle.roster_instance.specs.Meaning.{Meaning}
 use Rattle.roster_case.specs.Held.{HeldRoster}
 use Rattle.roster_offers.specs.Workspaces.{fits_space}
 use Rattle.roster_row.specs.Recalled.{RecallsSearches}
 use Rattle.roster_rules.specs.Penalties.{penalty}
 use Rattle.roster_laws.proofs.Frozen.{stays_on, stays_self}
+use Rattle.roster_polish.specs.Descents.{Descends}
 use Rattle.roster_polish.specs.Polished.{FitsPolish}
 use Rattle.roster_polish.specs.declared.space.PolishSpace.{PolishSpace}
 use Rattle.roster_polish.proofs.Memory.{fits_with}
 use Rattle.roster_polish.proofs.stay.stay_if_no_dearer.Goals as goal
+use Rattle.roster_polish.proofs.stay.stay_if_no_dearer.Goals.{else-settled-via-else-settled, else-settled-via-then-settled+else-total-aim}
 
 pub descend-settled-requires : goal.descend-settled-requires
 descend-settled-requires g c = record { fits = c.requires.able.fits.bounds.rows.search; recalls = c.requires.able.fits.recalls; room = c.requires.able.room }
@@ -44,13 +46,21 @@ returns-then-total-aim g c =
       tried = record {
         case = last.ensures.case;
         kept = search rules;
-        stayed = λ e. last.ensures.settled c.if-settled.true;
+        stayed = λ e. last.ensures.descent.is_settled c.if-settled.true;
         back = λ e. absurd (true≢false e);
         frozen = stays_on k week c.args.space.now.kept c.args.held.now.roster next c.requires.frozen last.ensures.frozen;
         no_dearer = omega (arith, c.total.ensures.total, c.requires.penalty, c.if-total-aim.true, ap (λ (m : Meaning). penalty m next) last.ensures.case);
         spends = last.ensures.spends;
         fits = rw (← last.ensures.case) (search rules);
       };
+      decided = record {
+        reached = next;
+        settled = true;
+        descends = subst (Descends k week c.args.aim.penalty last.new.searches.left c.args.held.now.roster next) c.if-settled.true last.ensures.descent;
+        stays = sym (le-leb (penalty k next) c.args.aim.penalty (omega (arith, c.total.ensures.total, c.if-total-aim.true, ap (λ (m : Meaning). penalty m next) last.ensures.case)));
+        holds = λ e. refl;
+      };
+      faded = c.keep.ensures.faded;
       best = c.keep.ensures.best;
     }
 
@@ -79,5 +89,17 @@ returns-else-settled g c =
         spends = logged.spends;
         fits = descent_fits k c.args.space.now c.descend-settled.new.workspace c.put.new.self fits logged.fits (c.put.ensures.recalls k fits.kept_recalls);
       };
+      decided = record {
+        reached = c.descend-settled.new.held.roster;
+        settled = c.descend-settled.result;
+        descends = logged.descent;
+        stays = sym (elim c.else-settled.branch [
+          | else-settled-via-then-settled+else-total-aim w ↦ and_right c.descend-settled.result _
+              (lt-leb (penalty k c.descend-settled.new.held.roster) c.args.aim.penalty (omega (arith, w.total.ensures.total, w.if-total-aim.false, ap (λ (m : Meaning). penalty m c.descend-settled.new.held.roster) logged.case)))
+          | else-settled-via-else-settled w ↦ and_left c.descend-settled.result _ w.if-settled.false
+        ]);
+        holds = λ e. absurd (true≢false (sym e));
+      };
+      faded = refl;
       best = refl;
     }

@@ -54,6 +54,7 @@ loop-nurse-preserved-then-not-step g c =
       counted = counted g at (inside g (goal.at.loop-nurse-preserved-then-not-step g c).In-loop-nurse);
       frozen = stayed g at;
       same_capacity = same_after _ _ _ i.same_capacity c.step-step.ensures.same_capacity;
+      same_last = c.step-step.ensures.same_last ∙ i.same_last;
       ready = ready g at;
     }
 
@@ -76,6 +77,7 @@ loop-nurse-preserved g c =
       counted = counted g at (inside g (goal.at.loop-nurse-preserved g c).In-loop-nurse);
       frozen = stayed g at;
       same_capacity = same_after _ _ _ i.same_capacity c.step-step.ensures.same_capacity;
+      same_last = c.step-step.ensures.same_last ∙ i.same_last;
       ready = ready g at;
     }
 

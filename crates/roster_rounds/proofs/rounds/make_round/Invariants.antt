@@ -14,5 +14,6 @@ invariant-loop-nurse g l = record {
   counted : l.meter ≤ l.fn.meter + l.nurse * greatest_extension_count l.fn.held.case;
   frozen : FrozenDaysStay l.fn.held.case l.plan.from l.fn.held.roster l.held.roster;
   same_capacity : SameCapacity (g.S.Steps.space l.fn.steps) (g.S.Steps.space l.steps);
+  same_last : g.S.Steps.known_capacity l.steps ≡ g.S.Steps.known_capacity l.fn.steps;
   ready : g.S.Steps.IsReady l.fn.held.case l.steps;
 }

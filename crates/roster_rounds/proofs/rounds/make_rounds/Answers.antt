@@ -49,6 +49,7 @@ loop-rounds_before-init g c =
       counted = omega arith;
       frozen = stays_self c.args.held.now.case c.args.from c.args.held.now.roster;
       same_capacity = same_self _;
+      same_last = refl;
       ready = c.requires.ready;
       going = Going-start g.W.Write.contents c.args.held.now.case (best_row c.args.held.now.case c.args.from) c.args.rounds c.args.held.now.roster c.args.log.now c.log_start.new.log c.in_ok-sent.sent
           (subst (Sends g.W.Write.contents c.args.log.now c.log_start.new.log 0 c.in_ok-sent.sent) line c.in_ok-sent.ensures.ok);
@@ -107,6 +108,7 @@ loop-rounds_before-preserved g c =
       counted = round_counted case l.held.case l.invariant.case_is l.rounds_before c.args.meter.now l.meter l.invariant.counted c.make_round.new.meter c.make_round.ensures.counted;
       frozen = stayed g (goal.at.loop-rounds_before-preserved g c).After-make_round;
       same_capacity = same_after _ _ _ l.invariant.same_capacity c.make_round.ensures.same_capacity;
+      same_last = c.make_round.ensures.same_last ∙ l.invariant.same_last;
       ready = ready g (goal.at.loop-rounds_before-preserved g c).After-make_round;
       going = Going-round contents case (best_row case c.args.from) c.args.rounds c.args.held.now.roster c.args.log.now now next l.log c.make_round.new.log l.sent made.sent l.changes l.rounds_before made.changes l.invariant.going
           c.loop-rounds_before-test.true round (omega (arith, c.if-made-eq0.false));
@@ -157,6 +159,9 @@ returns-in_err-made-clause-counted g c =
 pub returns-in_err-made-clause-same_capacity : goal.returns-in_err-made-clause-same_capacity
 returns-in_err-made-clause-same_capacity g c = same_after _ _ _ c.loop-rounds_before.invariant.same_capacity c.make_round.ensures.same_capacity
 
+pub returns-in_err-made-clause-same_last : goal.returns-in_err-made-clause-same_last
+returns-in_err-made-clause-same_last g c = c.make_round.ensures.same_last ∙ c.loop-rounds_before.invariant.same_last
+
 pub returns-in_err-made-clause-ready : goal.returns-in_err-made-clause-ready
 returns-in_err-made-clause-ready g c = ready g (goal.at.returns-in_err-made-clause-ready g c).After-make_round
 
@@ -174,6 +179,9 @@ returns-in_err-log_word-clause-counted g c =
 pub returns-in_err-log_word-clause-same_capacity : goal.returns-in_err-log_word-clause-same_capacity
 returns-in_err-log_word-clause-same_capacity g c = same_after _ _ _ c.loop-rounds_before.invariant.same_capacity c.make_round.ensures.same_capacity
 
+pub returns-in_err-log_word-clause-same_last : goal.returns-in_err-log_word-clause-same_last
+returns-in_err-log_word-clause-same_last g c = c.make_round.ensures.same_last ∙ c.loop-rounds_before.invariant.same_last
+
 pub returns-in_err-log_word-clause-ready : goal.returns-in_err-log_word-clause-ready
 returns-in_err-log_word-clause-ready g c = ready g (goal.at.returns-in_err-log_word-clause-ready g c).After-make_round
 
@@ -190,6 +198,9 @@ returns-then-made-eq0-clause-counted g c =
 
 pub returns-then-made-eq0-clause-same_capacity : goal.returns-then-made-eq0-clause-same_capacity
 returns-then-made-eq0-clause-same_capacity g c = same_after _ _ _ c.loop-rounds_before.invariant.same_capacity c.make_round.ensures.same_capacity
+
+pub returns-then-made-eq0-clause-same_last : goal.returns-then-made-eq0-clause-same_last
+returns-then-made-eq0-clause-same_last g c = c.make_round.ensures.same_last ∙ c.loop-rounds_before.invariant.same_last
 
 pub returns-then-made-eq0-clause-ready : goal.returns-then-made-eq0-clause-ready
 returns-then-made-eq0-clause-ready g c = ready g (goal.at.returns-then-made-eq0-clause-ready g c).After-make_round

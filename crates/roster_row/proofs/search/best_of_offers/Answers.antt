@@ -2,6 +2,7 @@ use Rattle.std.proofs.Common.{◌≡◌, ◌∙◌, ◌+◌, ◌<◌, [], ap, ar
 use Rattle.roster_instance.specs.Meaning.{Meaning}
 use Rattle.roster_rules.specs.Prefix.{due}
 use Rattle.roster_rules.specs.PenaltyBounds.{penalty_limit}
+use Rattle.roster_laws.specs.Greatest.{greatest_state_count}
 use Rattle.roster_offers.specs.Lists.{AreOffers, IsFound, best_over, offers_on}
 use Rattle.std.proofs.Common.{IsSome}
 use Rattle.roster_row.proofs.BestLaws.{KeepsLimits, found_is, sum_within}
@@ -32,7 +33,7 @@ pub returns-clause-found : goal.returns-clause-found
 returns-clause-found g c = found g (goal.at.returns-clause-found g c).After-rest
 
 pub returns-clause-are_reachable : goal.returns-clause-are_reachable
-returns-clause-are_reachable g c = subst (λ (m : Meaning). g.T.SearchesRows.IsCounted m c.args.nurse (offers_on c.args.workspace.now.offers) c.args.meter.now c.search_offers-cost.new.meter) c.case-2.ensures c.search_offers-cost.ensures.are_reachable
+returns-clause-are_reachable g c = subst (λ (m : Meaning). g.T.SearchesRows.IsCounted (greatest_state_count m) m c.args.nurse (offers_on c.args.workspace.now.offers) c.args.meter.now c.search_offers-cost.new.meter) c.case-2.ensures c.search_offers-cost.ensures.are_reachable
 
 -- ---- the penalty
 

@@ -1,4 +1,5 @@
 use Rattle.std.proofs.Common.{◌∙◌, sym}
+use Rattle.roster_laws.specs.Greatest.{greatest_state_count}
 use Rattle.roster_offers.specs.Lists.{offers_on}
 use Rattle.roster_offers.specs.Offers.{shift_offers}
 use Rattle.roster_row.proofs.BestLaws.{best_keeps, found_best, found_penalty}
@@ -24,7 +25,7 @@ returns-clause-total g c =
 
 pub returns-clause-are_reachable : goal.returns-clause-are_reachable
 returns-clause-are_reachable g c =
-    g.met.T.SearchesRows.counted_same c.args.held.now.case c.args.nurse (offers_on c.offers_of_days.new.workspace.offers) (shift_offers c.args.held.now.case c.args.from c.args.held.now.roster c.args.nurse) c.offers_of_days.ensures.offers.each c.args.meter.now c.best_of_offers.new.meter c.best_of_offers.ensures.are_reachable
+    g.met.T.SearchesRows.counted_same (greatest_state_count c.args.held.now.case) c.args.held.now.case c.args.nurse (offers_on c.offers_of_days.new.workspace.offers) (shift_offers c.args.held.now.case c.args.from c.args.held.now.roster c.args.nurse) c.offers_of_days.ensures.offers.each c.args.meter.now c.best_of_offers.new.meter c.best_of_offers.ensures.are_reachable
 
 pub returns-clause-same_capacity : goal.returns-clause-same_capacity
 returns-clause-same_capacity g c = same_after _ _ _ c.offers_of_days.ensures.same_capacity c.best_of_offers.ensures.same_capacity

@@ -1,6 +1,8 @@
 use Rattle.std.proofs.Common.{◌≡◌, ◌∙◌, ◌<◌, ap, length, subst, sym}
 use Rattle.std.proofs.Math.Path.{transport}
 use Rattle.roster_instance.specs.Meaning.{Meaning, day_count, nurse_count}
+use Rattle.roster_laws.specs.Greatest.{greatest_state_count}
+use Rattle.roster_offers.specs.Offers.{shift_offers}
 use Rattle.roster_offers.specs.Lists.{AreOffersAt, IsFound, best_over, best_over_at, offers_on}
 use Rattle.roster_offers.proofs.AtOne.{best_over_one}
 use Rattle.roster_row.specs.Recalled.{RecallsSearches}
@@ -74,3 +76,9 @@ returns-clause-total g c =
 
 pub returns-clause-same_capacity : goal.returns-clause-same_capacity
 returns-clause-same_capacity g c = same_after _ _ _ c.offers_of_days.ensures.same_capacity c.best_of_offers-cost.ensures.same_capacity
+
+-- ---- what it takes
+
+pub returns-clause-are_reachable : goal.returns-clause-are_reachable
+returns-clause-are_reachable g c =
+    g.met.T.SearchesRows.counted_same (greatest_state_count c.args.held.now.case) c.args.held.now.case c.args.nurse (offers_on c.offers_of_days.new.workspace.offers) (shift_offers c.args.held.now.case c.args.from c.args.held.now.roster c.args.nurse) c.offers_of_days.ensures.offers.each c.args.meter.now c.best_of_offers-cost.new.meter c.best_of_offers-cost.ensures.are_reachable

@@ -1,10 +1,10 @@
 use Rattle.std.proofs.lemmas.List.{length-set}
 use Rattle.std.proofs.lemmas.Nat.{mul-le}
-use Rattle.std.proofs.Common.{ℕ, ◌≡◌, ◌+◌, ◌*◌, ◌≤◌, ◌<◌, ap, arith, length, lt-ltb, min, slice_index_or, true}
+use Rattle.std.proofs.Common.{ℕ, ◌≡◌, ◌+◌, ◌*◌, ◌≤◌, ◌<◌, ap, arith, false, length, lt-ltb, min, slice_index_or, true}
 use Rattle.roster_instance.specs.Counting.{one_if}
 use Rattle.roster_instance.specs.RunLaw.{day_violations}
 use Rattle.roster_instance.specs.Sizes.{cap}
-use Rattle.roster_state.specs.CompletionLines.{IsUnderStay}
+use Rattle.roster_state.specs.CompletionLines.{IsLesser, IsUnderStay}
 use Rattle.roster_state.proofs.CompletionLines.{cell_more, missed_from}
 use Rattle.roster_state.proofs.line.set_cells.Goals as goal
 use Rattle.roster_state.proofs.line.set_cells.Goals.{then-count-cap, else-count-cap}
@@ -31,6 +31,7 @@ open-preserved c =
     cell_more c.args.costs c.args.after.now place c.open.here c.min.result inside c.open.invariant
     (omega (arith, c.min.ensures, missed))
     (omega (arith, c.min.ensures, after, extra))
+    (λ _ _. omega (arith, c.min.ensures, missed, after, extra))
     (omega (arith, c.min.ensures, c.requires.leave, most))
 
 pub full-preserved : goal.full-preserved
@@ -53,4 +54,14 @@ full-preserved c =
           let extra : c.args.costs.weight * day_violations run place true ≡ c.args.costs.weight * 1 = ap (λ b. c.args.costs.weight * one_if b) (lt-ltb run.greatest (place + 1) (omega (arith, from))) in
           omega (arith, w.completion_bound-is, w.min-completion_bound.ensures, extra, cell)
     ] in
-    cell_more c.args.costs after place c.full.here completion_bound (omega arith) c.full.invariant (omega (arith, leaves)) stays (omega (arith, leaves, c.requires.leave))
+    let lesser : IsLesser c.args.costs after place completion_bound = λ some computed. elim c.if-count-cap.branch [
+      | then-count-cap w ↦ absurd (omega (arith, c.full.auto.place, c.min-open.ensures, w.if-count-cap, computed))
+      | else-count-cap w ↦
+          let from : cap run ≤ place = omega (arith, c.full.auto.place, c.min-open.ensures, w.if-count-cap, c.cap-cap.ensures) in
+          let to : c.cap-cap.result ≡ min (place + 1) (cap run) = omega (arith, c.cap-cap.ensures, from) in
+          let cell = ap (λ k. slice_index_or after k 0) to in
+          let extra : c.args.costs.weight * day_violations run place true ≡ c.args.costs.weight * 1 = ap (λ b. c.args.costs.weight * one_if b) (lt-ltb run.greatest (place + 1) (omega (arith, from))) in
+          let nothing : c.args.costs.weight * 0 ≡ c.args.costs.weight * day_violations run place false = ap (λ k. c.args.costs.weight * k) (missed_from run place 0 (omega (arith, some)) (omega (arith, from))) in
+          omega (arith, w.completion_bound-is, w.min-completion_bound.ensures, extra, cell, nothing)
+    ] in
+    cell_more c.args.costs after place c.full.here completion_bound (omega arith) c.full.invariant (omega (arith, leaves)) stays lesser (omega (arith, leaves, c.requires.leave))

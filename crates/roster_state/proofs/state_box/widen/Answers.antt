@@ -1,4 +1,4 @@
-use Rattle.std.proofs.Common.{◌≡◌, ◌∙◌, ◌<◌, arith, false, inl, inr, length, subst, sym}
+use Rattle.std.proofs.Common.{◌≡◌, ◌∙◌, ◌<◌, arith, false, inl, inr, length, rules, subst, sym}
 use Rattle.std.proofs.lemmas.Bool.{cases_lt}
 use Rattle.roster_instance.specs.Meaning.{forbids}
 use Rattle.roster_state.specs.Boxes.{InBox, box_at}
@@ -9,7 +9,7 @@ use Rattle.roster_state.proofs.state_box.widen.Goals as goal
 
 pub loop-digit-init : goal.loop-digit-init
 loop-digit-init c =
-    let long : length c.args.after.now ≡ 9 = omega (arith, c.told-after) in
+    let long : length c.args.after.now ≡ 9 = search rules in
     let few : c.shift_digit-to.result < 9 = omega (arith, c.shift_digit-to.ensures.number, digit_few c.args.shift _ c.requires.shift c.keeps_limits.ensures.shifts) in
     record {
       leads = λ s below there allowed. absurd (omega (arith, below));
@@ -20,7 +20,7 @@ pub loop-digit-preserved : goal.loop-digit-preserved
 loop-digit-preserved c =
     let digit = c.loop-digit.digit in
     let old = c.loop-digit.invariant in
-    let long : length c.args.boxes.now ≡ 9 = omega (arith, c.told-boxes) in
+    let long : length c.args.boxes.now ≡ 9 = search rules in
     let few : digit < 9 = omega (arith, c.loop-digit-test.true, c.shifts.ensures, c.keeps_limits.ensures.shifts) in
     record {
       leads = λ s below there allowed. elim (cases_lt (shift_digit s.last) digit) [
@@ -36,14 +36,14 @@ loop-digit-preserved c =
 
 pub returns-clause-leads : goal.returns-clause-leads
 returns-clause-leads c s below there allowed =
-    let long : length c.args.after.now ≡ 9 = omega (arith, c.told-after) in
+    let long : length c.args.after.now ≡ 9 = search rules in
     let few : c.shift_digit-to.result < 9 = omega (arith, c.shift_digit-to.ensures.number, digit_few c.args.shift _ c.requires.shift c.keeps_limits.ensures.shifts) in
     box_set c.args.after.now c.shift_digit-to.result (shift_digit c.args.shift) c.loop-digit.state_box (next_of c.args.case.now c.args.nurse c.args.day s c.args.shift) (sym c.shift_digit-to.ensures.number) (omega (arith, long, few))
     (c.loop-digit.invariant.leads s (omega (arith, below, c.loop-digit-test.false, c.shifts.ensures.count)) there allowed)
 
 pub returns-clause-keeps : goal.returns-clause-keeps
 returns-clause-keeps c digit s there =
-    let long : length c.args.after.now ≡ 9 = omega (arith, c.told-after) in
+    let long : length c.args.after.now ≡ 9 = search rules in
     let few : c.shift_digit-to.result < 9 = omega (arith, c.shift_digit-to.ensures.number, digit_few c.args.shift _ c.requires.shift c.keeps_limits.ensures.shifts) in
     box_kept c.args.after.now c.shift_digit-to.result digit c.loop-digit.state_box s (omega (arith, long, few))
     (λ here. c.loop-digit.invariant.keeps s (subst (λ d. InBox (box_at c.args.after.now d) s) c.shift_digit-to.ensures.number here)) there

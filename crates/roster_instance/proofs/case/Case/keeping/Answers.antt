@@ -8,7 +8,7 @@ invariant_of-case c =
     let was = c.case.invariant in
     record {
       all_weeks = was.all_weeks;
-      few_states = few_states_with i.scenario i.past i.weeks.items i.base c.in_ok-base.base i.keep c.args.keep was.few_states;
-      small = small_with _ c.in_ok-base.base c.args.keep c.requires was.small;
+      few_states = few_states_with i.scenario i.past i.weeks.items i.base c.in-Ok.base i.keep c.args.keep was.few_states;
+      small = small_with _ c.in-Ok.base c.args.keep c.requires was.small;
       known_past = was.known_past;
     }

@@ -1,4 +1,4 @@
-use Rattle.std.proofs.Common.{◌≡◌, ◌∙◌, ◌*◌, ◌==◌, ◌&&◌, ap, arith, length, mul_comm, nat_le, sym, take}
+use Rattle.std.proofs.Common.{◌≡◌, ◌∙◌, ◌*◌, ◌/◌, ◌==◌, ◌&&◌, ap, arith, length, mul_comm, nat_le, sym, take}
 use Rattle.std.proofs.Math.Path.{transport}
 use Rattle.std.proofs.lemmas.List.{with_items_is}
 use Rattle.std.proofs.lemmas.Nat.{mul-le}
@@ -75,7 +75,9 @@ returns-clause-counted g c = c.search-cost.ensures.counted
 pub returns-clause-are_reachable : goal.returns-clause-are_reachable
 returns-clause-are_reachable g c =
     let offers = offers_are g (goal.at.returns-clause-are_reachable g c).After-search-cost in
-    transport (λ i. g.T.SearchesRows.IsCounted c.args.case.now c.args.nurse (offers_on (offers i)) c.args.meter.now c.search-cost.new.meter) c.search-cost.ensures.are_reachable
+    let room = capacity_of c.args.case.now c.args.self.now c.requires.fits in
+    let states : (g.T.SearchesRows.capacity c.self.inside.tables).labels / 2 ≡ greatest_state_count c.args.case.now = omega (arith, ap (λ (w : Space). w.labels) c.self.view_is, room.labels) in
+    transport (λ i. g.T.SearchesRows.IsCounted (states i) c.args.case.now c.args.nurse (offers_on (offers i)) c.args.meter.now c.search-cost.new.meter) c.search-cost.ensures.are_reachable
 
 pub returns-clause-same_capacity : goal.returns-clause-same_capacity
 returns-clause-same_capacity g c =

@@ -16,6 +16,7 @@ returns g c =
     let kept : c.put_rows.new.self ≡ c.args.held.now.roster = c.put_rows.ensures ∙ c.roster.ensures.roster in
     record {
       kept = kept;
+      faded = refl;
       best = refl;
       fits = record {
         bounds = c.requires.bounds;

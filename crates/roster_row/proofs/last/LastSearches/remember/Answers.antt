@@ -1,4 +1,4 @@
-use Rattle.std.proofs.Common.{◌≡◌, ◌∙◌, ◌+◌, ◌*◌, ◌<◌, [], ℕ, Some, ap, arith, length, slice_index_or, slice_set, subst, sym}
+use Rattle.std.proofs.Common.{◌≡◌, ◌∙◌, ◌+◌, ◌*◌, ◌<◌, [], ℕ, Some, ap, arith, length, slice_index_or, slice_set, subst, sym, vec_capacity}
 use Rattle.std.specs.Prelude.{All}
 use Rattle.std.specs.Vec.{with_item}
 use Rattle.std.proofs.lemmas.List.{length-set}
@@ -61,6 +61,7 @@ loop-day-preserved c =
     let here : ArePrices (offers day) new = subst (λ xs. ArePrices xs new) (offers_here at.After-as_slice c.requires.offers.0 c.requires.offers.1 inside) c.prices_by_shift.ensures in
     record {
       costs = old.costs;
+      capacity = old.capacity;
       length = length-set prices (n * length c.args.offers.now + day) new ∙ old.length;
       put = subst (λ i. (d : ℕ) → d < day + 1 → ArePrices (offers d) (slice_index_or (slice_set prices i new) (n * day_count k + d) [])) (sym index) (day_put k n c.requires.nurse offers day inside prices all new here old.put);
       others = λ i outside. ap (λ p. slice_index_or (slice_set prices p new) i []) index ∙ others_stay k n c.requires.nurse offers day inside prices all new i outside ∙ old.others i outside;
@@ -77,4 +78,5 @@ returns c =
     record {
       recalls = λ scale recalls row found. recalls_more k n c.requires.nurse scale c.args.self.now (record { prices = c.loop-day.self.prices; costs = with_item c.loop-day.self.costs n (Some c.args.cost) }) c.args.cost recalls old.length (ap (λ v. slice_set v.items n (Some c.args.cost)) old.costs) old.others
           (record { offers = offers_on c.args.offers.now; row = found.offers; prices = λ d low. old.put d (omega (arith, low, all)); found = found.is });
+      same_capacity = λ i. record { prices = old.capacity i; costs = vec_capacity (old.costs i) };
     }

@@ -15,7 +15,9 @@ items_are : (c : After-set_halves) → (with_items c.self.inside.bytes c.set_hal
 items_are c = with_items_is c.self.inside.bytes c.set_halves.new.bytes (c.set_halves.auto.bytes ∙ c.deref_mut.ensures.len)
 
 pub invariant_of-self : goal.invariant_of-self
-invariant_of-self c = ap length (items_are (goal.at.invariant_of-self c).After-set_halves) ∙ c.set_halves.auto.bytes ∙ ap length c.deref_mut.ensures.value ∙ c.self.invariant
+invariant_of-self c =
+    let kept = ap length (items_are (goal.at.invariant_of-self c).After-set_halves) ∙ c.set_halves.auto.bytes ∙ ap length c.deref_mut.ensures.value in
+    (kept ∙ c.self.invariant.0, c.self.invariant.1 ∙ sym kept)
 
 written : (c : After-set_halves) → IsWritten c.args.first c.args.run.now c.args.self.now (pointers_in c.self.inside.count (with_items c.self.inside.bytes c.set_halves.new.bytes).items)
 written c =
