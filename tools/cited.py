@@ -19,12 +19,17 @@ ALLOWED = {
     "the kit and its proofs": ["rt", "requires", "ensures", "first_of", "record", "Type 0", ".old", ".new"],
     "endings of files": [".rt", ".antt", ".xlsx"],
     "a ward's file, and what is next to it": ["NAME.ward", "NAME.ward-journal", "application_id", "user_version", "WardSeal"],
-    "days of an ask, and a package of Debian's": ["2026-11-04", "4 Nov", "2026-11-02 06:30:00", "python3-openpyxl"],
+    "days of an ask": ["2026-11-04", "4 Nov", "2026-11-02 06:30:00"],
+    "packages of Debian's": ["python3-openpyxl", "python3-flask", "python3-waitress", "python3-selenium", "chromium", "chromium-driver"],
+    "words of HTTP": ["127.0.0.1", "localhost", "HttpOnly", "SameSite=Strict", "Origin", "Origin: null", "Sec-Fetch-Site", "PUT", "TRACE"],
+    "what a page may load": ["frame-ancestors", "X-Frame-Options"],
+    "Pythons": ["python3", "/usr/bin/python3"],
     "any module, type, function or case": ["proofs/m/f/", "proofs/m/T/f/", "src/m.rt", "GROUP/NAME"],
     "what a build leaves": ["out/"],
     "marks of the desk's grid, and a variable of its cases": ["!", "*", "$TEN"],
     "names that an example makes up": ["maxi", "Bob Tue Early Head"],
-    "commands outside the repository": ["git log 3499717..", "apt-get install g++ libboost-graph-dev"],
+    "commands outside the repository": ["git log 3499717..", "apt-get install g++ libboost-graph-dev", "kill -9",
+    "apt-get install python3-flask python3-waitress"],
 }
 # What the kit's command takes, and the options of these.
 KIT_WORDS = {"all", "check", "ci", "doc", "fmt", "run", "try"}
