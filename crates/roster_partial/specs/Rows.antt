@@ -13,7 +13,7 @@ use Rattle.roster_partial.specs.declared.rows.Entry.{Entry}
 
 -- how many partial rows a list holds at most
 abbrev pub most_rows : ℕ
-most_rows = 65536
+most_rows = 262144
 
 -- ---- the list: one cell with the number of entries, then four cells of a label table for each entry
 

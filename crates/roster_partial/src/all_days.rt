@@ -77,7 +77,8 @@ fn start_entry(limited: &LimitedSearch<'_>) -> Entry
     ensures entry { IsEntryOf (days_on limited.now 0 []) result }
     ensures best { best_of (days_on limited.now 0 []) result
         ≡ within limited.now.limit (best_in limited.now.completion_bounds.search) }
-    ensures first { result.offer ≡ 0 }
+    ensures first { result.before ≡ 0 }
+    ensures offer { result.offer ≡ 0 }
     ensures last { shift_digit result.state.last < 16 }
 {
     let search = &limited.completion_bounds.search;

@@ -90,15 +90,19 @@ impl Limits {
         true
     }
 
-    /// Goes on after too many partial rows were within the limit. Returns whether there is another limit to
-    /// try.
+    /// Goes on after too many partial rows were within the limit: at first with the lower bound itself, which
+    /// many best rows cost. Returns whether there is another limit to try.
     pub(crate) fn lower(&mut self) -> bool {
-        if self.lowers == 0 {
+        if self.lowers == 0 || self.next <= self.dearer {
             return false;
         }
         self.lowers -= 1;
-        self.is_lowered = true;
         self.most = self.next;
+        if !self.is_lowered {
+            self.is_lowered = true;
+            self.next = self.dearer;
+            return true;
+        }
         self.halve()
     }
 

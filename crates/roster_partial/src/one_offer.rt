@@ -10,7 +10,9 @@ ghost use Rattle.roster_partial.specs.Rows.{IsEntryOf, best_of, count_in, earlie
 ghost use Rattle.roster_partial.specs.Searches.{ArePut, IsAfterWork, IsAdjustmentIn, IsRowExtension, best_of_extension, best_onward, best_put, days_after, days_in};
 
 use crate::limited::LimitedSearch;
-use crate::rows::{Entry, Link, REMAINDERS, RecentRows, drop_dominated, push_row, row_count};
+use crate::rows::{
+    Entry, INDICES, Link, REMAINDERS, RecentRows, drop_dominated, push_row, row_count,
+};
 use roster_completion::{Adjustment, adjustment_for, at_least_adjusted};
 use roster_instance::Shift;
 use roster_offers::SearchInput;
@@ -142,7 +144,7 @@ fn put(
         return false;
     }
     push_row(rows, more);
-    recent[bucket] = (end - at.end) as u16;
+    recent[bucket] = ((end - at.end) % INDICES) as u16;
     true
 }
 
@@ -196,7 +198,7 @@ pub fn extend_row(
     let more = Entry {
         state: transition.0,
         cost,
-        before: extension.link.before as u16,
+        before: extension.link.before as u32,
         offer: extension.link.offer as u8,
     };
     put(limited, at, &more, rows, recent)

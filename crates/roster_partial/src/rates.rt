@@ -36,7 +36,8 @@ const FEWEST_TRIALS: usize = 2;
 const WEEKS_WITHOUT_TRIAL: usize = 2;
 
 /// By how many points rates move at first: from the ends of their ranges, and from the rates of an earlier
-/// search.
+/// search for another nurse. From those of the nurse's own last search they move by three halves of a point,
+/// but by no less than this number of parts of it.
 const FIRST_CHANGE: u32 = 8;
 
 const NEXT_CHANGE: u32 = 4;
@@ -176,7 +177,7 @@ fn plan_by(bounded: &Bounded<'_>, guess: Option<Guess>, meter: &mut Meter) -> Tr
     match guess {
         Some(guess) if guess.is_own => TrialPlan {
             rates: within_range(guess.rates, scale),
-            by: scale * NEXT_CHANGE,
+            by: (scale + scale / 2).max(NEXT_CHANGE),
             trials: trials_from_same(bounded.search.case),
             close: guess.spread.saturating_add(scale * CLOSE),
         },
@@ -283,8 +284,8 @@ fn trial(bounded: &Bounded<'_>, rates: Rates, completion_bounds: &[u32], meter: 
 }
 
 /// Tries more rates, one pair after another, as long as others may be better and enough extensions are left
-/// to set the completion bounds once more afterwards. If a pair isn't better, the next one is half as far
-/// from the best one.
+/// to set the completion bounds once more afterwards. If a pair isn't better, or was the best one before, the
+/// next one is half as far from the best one.
 fn try_rates(
     bounded: &Bounded<'_>,
     plan: TrialPlan,
@@ -301,22 +302,50 @@ fn try_rates(
 {
     let each = extensions_of_trial(bounded);
     let mut tried = first;
+    let mut before = first.rates;
     let mut by = plan.by;
     'trials: for _trial in 0..plan.trials {
-        let rates = rates_after(bounded, tried.rates, by, tried.followed);
+        let next = next_trial(bounded, &tried, before, by);
         let is_done = tried.high.saturating_sub(tried.low) <= plan.close
-            || are_same(rates, tried.rates)
-            || are_same(rates, tried.set);
+            || are_same(next.rates, tried.rates)
+            || are_same(next.rates, tried.set);
         if is_done || bounded.last_count - meter.count() < 2 * each {
             return tried;
         }
-        let low = tried.low;
-        tried = try_more(bounded, tried, rates, completion_bounds, meter);
-        if tried.low == low {
+        let last = tried;
+        tried = try_more(bounded, tried, next.rates, completion_bounds, meter);
+        by = next.by;
+        if tried.low == last.low {
             by /= 2;
+        } else {
+            before = last.rates;
         }
     }
     tried
+}
+
+/// What is tried next: the rates, and by how much one of them is changed.
+#[derive(Clone, Copy)]
+struct NextTrial {
+    rates: Rates,
+    by: u32,
+}
+
+/// What to try after the best rates and those that were the best ones before. If it is these once more, the
+/// change is half as large.
+fn next_trial(bounded: &Bounded<'_>, tried: &Tried, before: Rates, by: u32) -> NextTrial
+    requires small { AreSmallRates bounded.now.search.scale tried.now.rates }
+    ensures small { AreSmallRates bounded.now.search.scale result.rates }
+{
+    let rates = rates_after(bounded, tried.rates, by, tried.followed);
+    if !are_same(rates, before) {
+        return NextTrial { rates, by };
+    }
+    let by = by / 2;
+    NextTrial {
+        rates: rates_after(bounded, tried.rates, by, tried.followed),
+        by,
+    }
 }
 
 /// Tries one more pair of rates, unless it is the best one. It becomes the best one if the start's completion

@@ -13,7 +13,7 @@ use roster_state::{Block, State};
 use roster_tables::NO_ROW;
 
 /// How many partial rows a list holds at most, those of all days together.
-pub const MOST_ROWS: usize = 65_536;
+pub const MOST_ROWS: usize = 262_144;
 
 /// How many cells a partial row takes.
 pub const ROW_CELLS: usize = 4;
@@ -31,7 +31,7 @@ const SMALL: u32 = 16;
 pub struct Entry {
     pub state: State,
     /// The index in the list of the partial row of the day before that it extends.
-    pub before: u16,
+    pub before: u32,
     pub cost: u32,
     /// The index of the offer among those of that day.
     pub offer: u8,
@@ -49,8 +49,12 @@ pub struct Link {
 pub const REMAINDERS: usize = 8192;
 
 /// For each remainder of a state's code, the index among its day's partial rows of the last one that was
-/// appended with it. That one may be of another state, or of another day.
+/// appended with it. That one may be of another state, or of another day. Of a greater index it has the last
+/// two bytes, which may be the index of any.
 pub type RecentRows = [u16; REMAINDERS];
+
+/// How many indices two bytes distinguish.
+pub const INDICES: usize = 65_536;
 
 /// Begins an empty list.
 pub fn clear_rows(cells: &mut [u32])
@@ -163,6 +167,7 @@ fn mark_dominated(cells: &mut [u32], index: usize)
 pub fn push_row(cells: &mut [u32], more: &Entry)
     requires cells { 5 + 4 * count_in cells.old ≤ length cells.old }
     requires few { count_in cells.old < most_rows }
+    requires before { more.now.before < most_rows }
     requires offer { more.now.offer < 16 }
     requires last { shift_digit more.now.state.last < 16 }
     ensures count { count_in cells.new ≡ count_in cells.old + 1 }
@@ -170,7 +175,7 @@ pub fn push_row(cells: &mut [u32], more: &Entry)
 {
     let index = cells[0] as usize;
     let first = ROW_CELLS * index;
-    let link = more.before as u32 * SMALL + more.offer as u32;
+    let link = more.before * SMALL + more.offer as u32;
     cells[first + 1] = more.cost;
     cells[first + 2] = runs_cell(&more.state);
     cells[first + 3] = counts_cell(&more.state);

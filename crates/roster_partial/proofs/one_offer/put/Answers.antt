@@ -1,7 +1,7 @@
 use Rattle.std.proofs.Common.{◌≡◌, ◌∙◌, ◌++◌, ◌+◌, ◌≤◌, ℕ, List, [], ◌∷◌, ap, arith, drop, length, subst, suc, sym, take}
 use Rattle.std.specs.List.{All}
 use Rattle.std.proofs.lemmas.Bool.{false≢true}
-use Rattle.std.proofs.lemmas.List.{drop-append-le, take-append-le}
+use Rattle.std.proofs.lemmas.List.{drop-append-le, length-take-le, take-append-le}
 use Rattle.std.proofs.lemmas.List.Elements.{All-push}
 use Rattle.roster_offers.specs.Cheapest.{cheapest}
 use Rattle.roster_offers.proofs.Cheapest.{cheapest_more}
@@ -98,3 +98,9 @@ drop_dominated-requires-clause-first c = omega (arith, length-rows_in c.args.row
 
 pub overflow_sub-recent : goal.overflow_sub-recent
 overflow_sub-recent c = omega (arith, c.row_count-end.ensures, c.drop_dominated.ensures.count, length-rows_in c.args.rows.now, c.requires.rows.inside)
+
+-- the partial row that it extends is one of those before the end
+pub push_row-requires-clause-before : goal.push_row-requires-clause-before
+push_row-requires-clause-before c =
+    let rows = c.requires.rows in
+    omega (arith, c.requires.entry.linked.0, length-take-le c.args.at.end (rows_in c.args.rows.now) rows.inside, length-rows_in c.args.rows.now, rows.inside, rows.held.within, c.args.limited.now.few)
