@@ -3,3 +3,4 @@ pub mod Branching
 pub mod BoundLogs
 pub mod Rounds
 pub mod BoundRuns
+pub mod PooledUses

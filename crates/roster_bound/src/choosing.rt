@@ -1,10 +1,11 @@
 //! By which decision a node is branched.
 
-ghost use Rattle.std.specs.Prelude.{◌<◌, ◌≤◌, IfSome};
+ghost use Rattle.std.specs.Prelude.{◌≡◌, ℕ, ◌<◌, ◌≤◌, IfNone, IfSome, length, slice_index};
 ghost use Rattle.roster_instance.specs.Limits.{most_nurses};
-ghost use Rattle.roster_instance.specs.Meaning.{nurse_count};
+ghost use Rattle.roster_instance.specs.Meaning.{day_count, nurse_count};
 ghost use Rattle.roster_bound.specs.Branching.{AreChildrenOf};
-ghost use Rattle.roster_slots.specs.ColumnPool.{FitsPool};
+ghost use Rattle.roster_bound.specs.PooledUses.{AgreeOn, AllAgree, HasNoDecision, IsUsed};
+ghost use Rattle.roster_slots.specs.ColumnPool.{FitsPool, pooled_slot};
 ghost use Rattle.roster_prices.specs.Workspaces.{FitsBound};
 
 use crate::nodes::{Children, Node};
@@ -45,9 +46,9 @@ const MOST_GAIN: u64 = 10 * FINE_PER_POINT as u64;
 const LEAST_GAIN: u64 = FINE_PER_POINT as u64 / 100;
 
 /// The children of a node by the decision that promises most by the pooled rows: of those that split the uses
-/// of a nurse's rows most evenly, the one for which the product of the children's gains is greatest. None if
-/// each nurse uses but one row, or if the node can take no more decisions. Values above the cap aren't aimed
-/// at.
+/// of a nurse's rows most evenly, the one for which the product of the children's gains is greatest. None
+/// only if all used rows of each nurse are alike, or if the node can take no more decisions. Values above the
+/// cap aren't aimed at.
 pub(crate) fn choose<T: SearchesRows>(
     case: &Case,
     node: &Node,
@@ -57,11 +58,15 @@ pub(crate) fn choose<T: SearchesRows>(
 ) -> Option<Children>
     requires { FitsBound case.now bounds.old }
     ensures two { IfSome result (λ two. AreChildrenOf node.now two.with two.without) }
+    ensures none { IfNone result (HasNoDecision case.now node.now bounds.new.pool uses.new) }
     ensures fits { FitsBound case.now bounds.new }
 {
     let decisions = node.decisions.as_slice();
     move_in_node(case, decisions, cap, ROUNDS_BEFORE, bounds, uses);
     let tried = candidates(case, &bounds.pool, uses);
+    if tried.is_empty() {
+        return None;
+    }
     bounds.set_dual_prices_aside(case);
     let now = value_by_pooled_rows(case, decisions, bounds, &mut []);
     let mut chosen = None;
@@ -93,7 +98,8 @@ fn gain_of<T: SearchesRows>(
     bounds: &mut BoundWorkspace<T>,
 ) -> u64
     requires { FitsBound case.now bounds.old }
-    ensures { FitsBound case.now bounds.new }
+    ensures some { 0 < result }
+    ensures fits { FitsBound case.now bounds.new }
 {
     bounds.take_dual_prices_back(case);
     let decisions = node.decisions.as_slice();
@@ -101,9 +107,11 @@ fn gain_of<T: SearchesRows>(
     value.saturating_sub(now).min(MOST_GAIN) + LEAST_GAIN
 }
 
-/// The decisions, one of each nurse and day, that split the uses of the nurses' rows most evenly.
+/// The decisions, one of each nurse and day, that split the uses of the nurses' rows most evenly. None only
+/// if there is nothing to split.
 fn candidates(case: &Case, pool: &ColumnPool, uses: &[u32]) -> ArrayVec<Candidate, TRIED>
     requires fits { FitsPool case.now pool.now }
+    ensures { length result.items ≡ 0 → AllAgree case.now pool.now uses.now }
 {
     case.keeps_limits();
     let mut found = ArrayVec::new();
@@ -120,7 +128,9 @@ fn candidates(case: &Case, pool: &ColumnPool, uses: &[u32]) -> ArrayVec<Candidat
 
 /// Adds a decision to those found. If they are as many as are tried, it replaces the least even one, provided
 /// that it is more even.
-fn keep_more_even(found: &mut ArrayVec<Candidate, TRIED>, candidate: Candidate) {
+fn keep_more_even(found: &mut ArrayVec<Candidate, TRIED>, candidate: Candidate)
+    ensures { 0 < length found.new.items }
+{
     if !found.is_full() {
         found.push(candidate);
         return;
@@ -147,13 +157,11 @@ fn most_even_decision(
 ) -> Candidate
     requires nurse { nurse < nurse_count case.now }
     requires few { nurse_count case.now ≤ most_nurses }
+    requires day { day < day_count case.now }
     requires fits { FitsPool case.now pool.now }
+    ensures { result.uses ≡ 0 → AgreeOn pool.now uses.now nurse day }
 {
     let first = ROWS_PER_NURSE * nurse;
-    let mut all: u32 = 0;
-    for at in first..first + ROWS_PER_NURSE {
-        all = all.saturating_add(uses_of(uses, at));
-    }
     let mut slot = OFF_SLOT;
     let mut even = 0;
     for at in first..first + ROWS_PER_NURSE {
@@ -161,8 +169,7 @@ fn most_even_decision(
             continue;
         }
         let here = pool.slot_at(case, at, day);
-        let with = uses_with(case, pool, uses, nurse, DaySlot { day, slot: here });
-        let less = with.min(all.saturating_sub(with));
+        let less = less_used(case, pool, uses, nurse, DaySlot { day, slot: here });
         if less > even {
             slot = here;
             even = less;
@@ -180,24 +187,35 @@ fn most_even_decision(
     }
 }
 
-/// How many uses a nurse's rows have with a slot on a day.
-fn uses_with(case: &Case, pool: &ColumnPool, uses: &[u32], nurse: usize, on: DaySlot) -> u32
+/// How many uses a nurse's rows have with a slot on a day or without it, whichever is less.
+fn less_used(case: &Case, pool: &ColumnPool, uses: &[u32], nurse: usize, on: DaySlot) -> u32
     requires nurse { nurse < nurse_count case.now }
+    requires day { on.day < day_count case.now }
     requires fits { FitsPool case.now pool.now }
+    ensures { result ≡ 0 → (j k : ℕ) → IsUsed uses.now nurse j → IsUsed uses.now nurse k
+        → pooled_slot pool.now j on.day ≡ on.slot → pooled_slot pool.now k on.day ≡ on.slot }
 {
     let first = ROWS_PER_NURSE * nurse;
     let mut with: u32 = 0;
+    let mut without: u32 = 0;
     for at in first..first + ROWS_PER_NURSE {
         let used = uses_of(uses, at);
-        if used > 0 && pool.slot_at(case, at, on.day) == on.slot {
+        if used == 0 {
+            continue;
+        }
+        if pool.slot_at(case, at, on.day) == on.slot {
             with = with.saturating_add(used);
+        } else {
+            without = without.saturating_add(used);
         }
     }
-    with
+    with.min(without)
 }
 
 /// The uses of a row; 0 beyond all rows.
-fn uses_of(uses: &[u32], at: usize) -> u32 {
+fn uses_of(uses: &[u32], at: usize) -> u32
+    ensures { result ≡ slice_index uses.now at }
+{
     if at < uses.len() { uses[at] } else { 0 }
 }
 

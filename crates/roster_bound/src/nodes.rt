@@ -1,7 +1,8 @@
 //! Nodes that together contain all rosters, each with a lower bound.
 
-ghost use Rattle.std.specs.Prelude.{◌≡◌, ◌<◌, ◌≤◌, ◌↔◌, ◌++◌, [], ◌∷◌, IfOk, IfSome, IsTrue, false, if◌then◌else◌, length, set, true, vec_capacity, vec_len};
+ghost use Rattle.std.specs.Prelude.{◌≡◌, ◌<◌, ◌≤◌, ◌↔◌, ◌++◌, [], ◌∷◌, IfNone, IfOk, IfSome, IsTrue, false, if◌then◌else◌, length, set, true, vec_capacity, vec_len};
 ghost use Rattle.roster_bound.specs.Branching.{AreChildrenOf, IsFirstLeastAt, IsLeastOf, IsRoot};
+ghost use Rattle.roster_bound.specs.PooledUses.{most_decisions};
 
 use arrayvec::ArrayVec;
 use roster_instance::Case;
@@ -45,6 +46,7 @@ impl Node {
         ensures decisions { IfSome result (λ node. node.decisions.items
             ≡ self.now.decisions.items ++ decision ∷ []) }
         ensures bound { IfSome result (λ node. node.bound ≡ self.now.bound) }
+        ensures none { IfNone result (most_decisions ≤ length self.now.decisions.items) }
     {
         let mut decisions = ArrayVec::new();
         let Ok(()) = decisions.try_extend_from_slice(self.decisions.as_slice()) else {
@@ -61,7 +63,8 @@ impl Node {
 
     /// The two children by a decision; none if the node can take no more.
     pub(crate) fn branched_by(&self, decision: Decision) -> Option<Children>
-        ensures { IfSome result (λ two. AreChildrenOf self.now two.with two.without) }
+        ensures two { IfSome result (λ two. AreChildrenOf self.now two.with two.without) }
+        ensures none { IfNone result (most_decisions ≤ length self.now.decisions.items) }
     {
         let with = self.with(decision)?;
         let without = self.with(decision.other_way())?;

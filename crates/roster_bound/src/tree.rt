@@ -1,12 +1,13 @@
 //! A lower bound for all rosters as the least over the nodes of a branching tree.
 
-ghost use Rattle.std.specs.Prelude.{◌≡◌, ◌+◌, ◌*◌, ◌<◌, ◌≤◌, IfNone, IfOk, false, length, vec_capacity, vec_len};
+ghost use Rattle.std.specs.Prelude.{◌≡◌, ◌+◌, ◌*◌, ◌<◌, ◌≤◌, ◌⊎◌, IfNone, IfOk, false, length, vec_capacity, vec_len};
 ghost use Rattle.roster_bundle.specs.Limits.{greatest_u64};
 ghost use Rattle.roster_instance.specs.Meaning.{nurse_count};
 ghost use Rattle.roster_laws.specs.Greatest.{extensions_in, greatest_extension_count};
 ghost use Rattle.roster_bound.specs.BoundLogs.{node_rounds};
 ghost use Rattle.roster_bound.specs.NodeCapacity.{nodes_capacity};
 ghost use Rattle.roster_bound.specs.Branching.{AreNodesOf, IsBoundByPrices, IsPriced};
+ghost use Rattle.roster_bound.specs.PooledUses.{IsStuck, IsUndecidedAt};
 ghost use Rattle.roster_prices.specs.Nodes.{IsLowerBoundIn};
 ghost use Rattle.roster_prices.specs.Workspaces.{FitsBound};
 
@@ -63,7 +64,8 @@ const NODE_ROUNDS: u16 = 12;
 const ROUNDS_BEFORE: u16 = 6;
 
 /// Branches the node with the least lower bound. If its pooled rows give no decision, as before the second
-/// round, half of the searches are made in the node itself first. Returns false if that was of no use.
+/// round, half of the searches are made in the node itself first. Returns false only if there is no capacity
+/// for the children, or if these searches gave neither a decision nor a higher bound.
 pub(crate) fn branch_least<T: SearchesRows>(
     upper: &UpperBound<'_>,
     space: &mut BoundSpace<T>,
@@ -76,6 +78,9 @@ pub(crate) fn branch_least<T: SearchesRows>(
         ≤ greatest_u64 }
     ensures nodes { AreNodesOf upper.now.base.now.case.now upper.now.base.now.from
         upper.now.base.now.given.now space.new.nodes.items.items }
+    ensures useless { result ≡ false → (vec_capacity space.old.nodes.items ≤ vec_len
+        space.old.nodes.items) ⊎ IsStuck upper.now.base.now.case.now space.old.nodes
+        space.new.nodes space.new.bounds.pool }
     ensures same_nodes { nodes_capacity space.new.nodes ≡ nodes_capacity space.old.nodes }
     ensures fits { FitsBound upper.now.base.now.case.now space.new.bounds }
     ensures grows { meter.old ≤ meter.new }
@@ -94,8 +99,8 @@ pub(crate) fn branch_least<T: SearchesRows>(
 }
 
 /// Branches the node at an index, and makes this many rounds of searches in each child. Returns false if
-/// there is no capacity for the children. If the pooled rows give no decision, it makes no search and returns
-/// none.
+/// there is no capacity for the children. If the pooled rows give no decision, and only then, it makes no
+/// search and returns none.
 fn branch_at<T: SearchesRows>(
     upper: &UpperBound<'_>,
     at: usize,
@@ -114,6 +119,8 @@ fn branch_at<T: SearchesRows>(
         upper.now.base.now.given.now space.new.nodes.items.items }
     ensures none { IfNone result (meter.new ≡ meter.old) }
     ensures same { IfNone result (space.new.nodes.items ≡ space.old.nodes.items) }
+    ensures undecided { IfNone result (IsUndecidedAt upper.now.base.now.case.now space.new.nodes
+        space.new.bounds.pool at) }
     ensures full { result ≡ Some false → vec_capacity space.old.nodes.items ≤ vec_len
         space.old.nodes.items }
     ensures same_nodes { nodes_capacity space.new.nodes ≡ nodes_capacity space.old.nodes }
@@ -131,7 +138,7 @@ fn branch_at<T: SearchesRows>(
     Some(nodes.put_children(at, two))
 }
 
-/// Raises the lower bound of the node at an index. Returns whether it rose.
+/// Raises the lower bound of the node at an index. Returns whether it rose; if not, no node has changed.
 fn raise_at<T: SearchesRows>(
     upper: &UpperBound<'_>,
     at: usize,
@@ -147,6 +154,7 @@ fn raise_at<T: SearchesRows>(
     ensures nodes { AreNodesOf upper.now.base.now.case.now upper.now.base.now.from
         upper.now.base.now.given.now space.new.nodes.items.items }
     ensures count { length space.new.nodes.items.items ≡ length space.old.nodes.items.items }
+    ensures same { result ≡ false → space.new.nodes.items.items ≡ space.old.nodes.items.items }
     ensures same_nodes { nodes_capacity space.new.nodes ≡ nodes_capacity space.old.nodes }
     ensures fits { FitsBound upper.now.base.now.case.now space.new.bounds }
     ensures grows { meter.old ≤ meter.new }

@@ -3,7 +3,7 @@
 ghost use Rattle.std.specs.Prelude.{◌≡◌, ◌+◌, ◌*◌, ◌<◌, ◌≤◌, IfOk, length};
 ghost use Rattle.roster_instance.specs.Meaning.{day_count, nurse_count};
 ghost use Rattle.roster_offers.specs.Lists.{most_scale};
-ghost use Rattle.roster_slots.specs.ColumnPool.{FitsPool};
+ghost use Rattle.roster_slots.specs.ColumnPool.{FitsPool, pooled_slot};
 
 use crate::dual_prices::{DualPrices, FINE_PER_POINT, MOST_DUAL_PRICE, MOST_FINE};
 use roster_instance::{Case, Choice};
@@ -154,6 +154,7 @@ impl ColumnPool {
     pub fn slot_at(&self, case: &Case, at: usize, day: u16) -> u16
         requires fits { FitsPool case.now self.now }
         requires at { at < length self.now.entries.items }
+        ensures { day < day_count case.now → result ≡ pooled_slot self.now at day }
     {
         let first = at * self.days;
         let day = day as usize;

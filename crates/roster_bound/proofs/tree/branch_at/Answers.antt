@@ -1,6 +1,8 @@
-use Rattle.std.proofs.Common.{◌≡◌, ◌++◌, ◌∷◌, [], Bool, List, true, false, if◌then◌else◌, set, subst, sym}
+use Rattle.std.proofs.Common.{◌≡◌, ◌++◌, ◌∷◌, [], ℕ, Bool, List, Option, None, Some, IfNone, true, false, arith, if◌then◌else◌, set, subst, sym}
+use Rattle.std.proofs.lemmas.List.{with_items_is}
 use Rattle.roster_bound.specs.declared.nodes.Node.{Node}
 use Rattle.roster_bound.specs.Branching.{AreNodesOf}
+use Rattle.roster_bound.specs.PooledUses.{HasNoDecision, IsUndecidedAt}
 use Rattle.roster_bound.proofs.NodeLaws.{branched, child_bounds, child_prices}
 use Rattle.roster_bound.proofs.tree.branch_at.Goals as goal
 
@@ -43,3 +45,19 @@ pub raise_node-requires-2-clause-priced : goal.raise_node-requires-2-clause-pric
 raise_node-requires-2-clause-priced g c =
     let b = c.args.upper.now.base.now in
     (child_prices b.case.now b.from b.given.now c.args.space.now.nodes.items.items c.args.at c.index.result.now c.in_ok-two.two.with c.in_ok-two.two.without c.requires.nodes c.requires.at c.index.ensures c.in_ok-two.ensures.two).1
+
+-- without a decision, the uses are as they were counted
+
+on_none : {A P : Type 0} (o : Option A) → P → IfNone o P
+on_none None p = p
+on_none (Some _) p = tt
+
+pub returns-in_err-two-clause-undecided : goal.returns-in_err-two-clause-undecided
+returns-in_err-two-clause-undecided g c =
+    let counted = with_items_is c.args.space.now.nodes.uses c.choose.new.uses (omega arith) in
+    let none : List ℕ → Type 0 = λ uses. HasNoDecision c.args.upper.now.base.now.case.now c.index.result.now c.choose.new.bounds.pool uses in
+    on_none c.from_residual.result (record {
+      node = c.index.result.now;
+      here = sym c.index.ensures;
+      no_decision = subst none (sym counted) c.in_err-two.ensures.none;
+    })
