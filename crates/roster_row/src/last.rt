@@ -1,6 +1,6 @@
 //! What the last search for each nurse says of the next one.
 
-ghost use Rattle.std.specs.Prelude.{◌≡◌, ◌+◌, ◌*◌, ◌<◌, ◌≤◌, ◌^◌, ℕ, true, All, IfOk, IfSome, None, is_some, length, replicate, slice_index_or};
+ghost use Rattle.std.specs.Prelude.{◌≡◌, ◌+◌, ◌*◌, ◌<◌, ◌≤◌, ◌^◌, ℕ, true, All, IfOk, IfSome, None, Some, is_some, length, replicate, slice_index_or, slice_set};
 ghost use Rattle.roster_instance.specs.Choices.{shift_of};
 ghost use Rattle.roster_instance.specs.Limits.{most_shifts};
 ghost use Rattle.roster_instance.specs.Meaning.{Meaning, day_count, nurse_count};
@@ -176,6 +176,9 @@ impl LastSearches {
         requires offers { (scale : ℕ) × AreOffersAt case.now nurse scale offers.now }
         ensures recalls { AreRemembered case.now nurse (offers_on offers.now) cost self.old
             self.new }
+        ensures recorded { self.new.costs.items ≡ slice_set self.old.costs.items nurse (Some cost) }
+        ensures prices { (day : ℕ) → day < day_count case.now →
+            ArePrices (offers_on offers.now day) (prices_on case.now self.new nurse day) }
         ensures same_capacity { last_capacity self.new ≡ last_capacity self.old }
     {
         case.keeps_limits();

@@ -78,5 +78,7 @@ returns c =
     record {
       recalls = λ scale recalls row found. recalls_more k n c.requires.nurse scale c.args.self.now (record { prices = c.loop-day.self.prices; costs = with_item c.loop-day.self.costs n (Some c.args.cost) }) c.args.cost recalls old.length (ap (λ v. slice_set v.items n (Some c.args.cost)) old.costs) old.others
           (record { offers = offers_on c.args.offers.now; row = found.offers; prices = λ d low. old.put d (omega (arith, low, all)); found = found.is });
+      recorded = ap (λ v. slice_set v.items n (Some c.args.cost)) old.costs;
+      prices = λ day low. old.put day (omega (arith, low, all));
       same_capacity = λ i. record { prices = old.capacity i; costs = vec_capacity (old.costs i) };
     }
