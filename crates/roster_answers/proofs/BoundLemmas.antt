@@ -1,5 +1,5 @@
 -- How `bound` ends: whatever lower bounds it found, they are lower bounds of its rounds.
-use Rattle.std.proofs.Common.{◌≡◌, [], ℕ, Err, Ok, Result, Some, refl, subst}
+use Rattle.std.proofs.Common.{◌≡◌, ◌≤◌, [], ℕ, Err, None, Ok, Option, Result, Some, ap, arith, false, refl, subst}
 use Rattle.std.specs.Prelude.{IfErr, OnOk}
 use Rattle.roster_text.specs.Io.{Stops, Writes}
 use Rattle.roster_rules.specs.HardRules.{hard_faults}
@@ -10,7 +10,8 @@ use Rattle.roster_reports.specs.declared.log_fault.LogFault.{LogFault}
 use Rattle.roster_bound.specs.declared.effort.Effort.{Effort}
 use Rattle.roster_bound.specs.BoundLogs.{bound_log_text}
 use Rattle.roster_bound.specs.BoundRuns.{BoundLogStops, RaisesBound}
-use Rattle.roster_answers.specs.Answer.{IsBoundReport, IsUnheld, Output, Reports, StopsOutput, Untouched, bound_report, outcome_of}
+use Rattle.roster_timer.specs.Deadlines.{is_at_end}
+use Rattle.roster_answers.specs.Answer.{CommandEnd, IsBoundReport, IsBoundWithin, IsUnheld, Output, Reports, StopsOutput, Untouched, bound_report, outcome_of}
 use Rattle.roster_reports.specs.Lines.{bound_text}
 use Rattle.roster_answers.specs.declared.fault.Fault.{Fault}
 use Rattle.roster_answers.specs.declared.fault.Fault.TheVariants as fault
@@ -18,6 +19,25 @@ use Rattle.roster_bound.proofs.RoundLaws.{some_log}
 use Rattle.roster_offers.proofs.ScaleLaws.{one_is_scale}
 use Rattle.roster_answers.proofs.AnswerLemmas.{unheld_ends, unheld_log}
 use Rattle.roster_answers.proofs.BoundReports.{of_bounds}
+
+-- a report of what was made is one of a run that may have a limit of time
+pub made_within : {W L : Type 0} (output : Output W) (log : Output L) (asked made : Effort) (limit : Option ℕ) (from : ℕ) (c : Meaning) (r : Rows) (outcome : CommandEnd) → made.rounds ≤ asked.rounds → made.nodes ≤ asked.nodes → (limit ≡ None → made ≡ asked)
+    → Reports output log (IsBoundReport made from c r) c outcome → Reports output log (IsBoundWithin asked limit from c r) c outcome
+made_within output log asked made limit from c r outcome rounds nodes all h = record {
+  report = h.report;
+  is = record { made = made; rounds = rounds; nodes = nodes; all = all; report = h.is };
+  ends = h.ends;
+  logged = h.logged;
+}
+
+-- all that was asked for was made
+pub all_within : {W L : Type 0} (output : Output W) (log : Output L) (asked : Effort) (limit : Option ℕ) (from : ℕ) (c : Meaning) (r : Rows) (outcome : CommandEnd) → Reports output log (IsBoundReport asked from c r) c outcome
+    → Reports output log (IsBoundWithin asked limit from c r) c outcome
+all_within output log asked limit from c r outcome h = made_within output log asked asked limit from c r outcome (omega arith) (omega arith) (λ e. refl) h
+
+-- a time without an end isn't up
+pub endless : (ends : Option ℕ) (last step : ℕ) → ends ≡ None → is_at_end ends last step ≡ false
+endless ends last step none = ap (λ e. is_at_end e last step) none
 
 module _ (effort : Effort) (from : ℕ) (c : Meaning) (r : Rows) where
   module _ {W L : Type 0} (output : Output W) (log : Output L) where

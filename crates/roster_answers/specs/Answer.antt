@@ -31,6 +31,7 @@ use Rattle.roster_rules.specs.declared.fault.HardFault.{HardFault}
 use Rattle.roster_rules.specs.Improver.{log_of, run}
 use Rattle.roster_rounds.specs.RunLogs.{text_of}
 use Rattle.roster_bound.specs.declared.effort.Effort.{Effort}
+use Rattle.roster_bound.specs.declared.effort.Task.{Task}
 use Rattle.roster_bound.specs.BoundLogs.{BoundLine, IsBoundLog, bound_log_text, last_line, no_line}
 use Rattle.roster_bound.specs.Rounds.{AreLinesOfRounds}
 use Rattle.roster_prices.specs.LowerBounds.{IsLowerBound}
@@ -245,6 +246,16 @@ pub record IsBoundReport (effort : Effort) (from : ℕ) (c : Meaning) (r : Rows)
   pub rounds : week_count c ≤ most_weeks → AreLinesOfRounds c from r effort.rounds lines
   pub is : p ≡ bound_report lines c r
 
+-- the same of a run that may have a limit of time: with one, it can end before all rounds and branchings are
+-- made that were asked for
+pub record IsBoundWithin (asked : Effort) (limit : Option ℕ) (from : ℕ) (c : Meaning) (r : Rows)
+    (p : Report) : Type 0 where
+  pub made : Effort
+  pub rounds : made.rounds ≤ asked.rounds
+  pub nodes : made.nodes ≤ asked.nodes
+  pub all : limit ≡ None → made ≡ asked
+  pub report : IsBoundReport made from c r p
+
 -- the names of days: each is its week and its weekday, as in 1:Wed
 abbrev pub day_name : ℕ → Text
 day_name d = decimal (d / 7) ++ codes ":" ++ weekday_text (d % 7)
@@ -303,8 +314,9 @@ pub record IsWhoReport (names : AskedNames) (from : ℕ) (c : Meaning) (r : Rows
 
 -- ---- the same for an instance that was read
 
-abbrev pub IsBoundFor : Effort → (from : ℕ) → Instance → Report → Type 0
-IsBoundFor effort from instance p = IsBoundReport effort from instance.case instance.roster p
+abbrev pub IsBoundFor : {K : Type 0} → Task K → Instance → Report → Type 0
+IsBoundFor task instance p =
+    IsBoundWithin task.effort task.deadline.ends task.from instance.case instance.roster p
 
 abbrev pub IsWhoFor : AskedNames → (from : ℕ) → Instance → Report → Type 0
 IsWhoFor names from instance p = IsWhoReport names from instance.case instance.roster p

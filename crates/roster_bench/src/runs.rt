@@ -46,9 +46,9 @@ fn command_of(plan: &Plan) -> Command
     ensures improve { (rounds : ℕ) → plan.now.work ≡ work.Improve rounds →
         result ≡ command.Improve rounds 0 0 }
     ensures bound { (rounds : ℕ) → plan.now.work ≡ work.Bound rounds →
-        result ≡ command.Bound rounds 0 0 0 }
+        result ≡ command.Bound rounds 0 None 0 0 }
     ensures polish { (searches : ℕ) → plan.now.work ≡ work.Polish searches →
-        result ≡ command.Polish (Some searches) plan.now.size.seed 0 true 0 }
+        result ≡ command.Polish (Some searches) None plan.now.size.seed 0 true 0 }
 {
     match plan.work {
         Work::Show { .. } => Command::Show,
@@ -61,11 +61,13 @@ fn command_of(plan: &Plan) -> Command
         Work::Bound { rounds } => Command::Bound {
             rounds,
             nodes: 0,
+            seconds: None,
             from: 0,
             keep: 0,
         },
         Work::Polish { searches } => Command::Polish {
             searches: Some(searches),
+            seconds: None,
             seed: plan.size.seed,
             from: 0,
             kicks_alone: true,

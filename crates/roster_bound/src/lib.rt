@@ -24,7 +24,7 @@ mod tree;
 mod upper;
 
 pub use bounds::lower_bound;
-pub use effort::{Effort, Reached};
+pub use effort::{Effort, Raised, Reached, Task};
 pub use laws::{
     bounds_are_rounded_up, met_bound_is_least, no_roster_is_below_the_bound, nodes_cover_all,
     whole_points_have_one_bound,

@@ -21,7 +21,9 @@ use roster_offers::{BestFault, SearchesRows};
 use roster_prices::{Base, BoundWorkspace, Decision, Terms, move_by_pooled_rows};
 use roster_slots::target_cap;
 use roster_state::Meter;
+use roster_timer::Deadline;
 use std::alloc::Global;
+use std::time::Clock;
 
 /// The memory of a run that raises a lower bound.
 pub struct BoundSpace<T: SearchesRows> {
@@ -66,8 +68,9 @@ const ROUNDS_BEFORE: u16 = 6;
 /// Branches the node with the least lower bound. If its pooled rows give no decision, as before the second
 /// round, half of the searches are made in the node itself first. Returns false only if there is no capacity
 /// for the children, or if these searches gave neither a decision nor a higher bound.
-pub(crate) fn branch_least<T: SearchesRows>(
+pub(crate) fn branch_least<T: SearchesRows, K: Clock + Copy>(
     upper: &UpperBound<'_>,
+    deadline: &mut Deadline<K>,
     space: &mut BoundSpace<T>,
     meter: &mut Meter,
 ) -> bool
@@ -82,17 +85,18 @@ pub(crate) fn branch_least<T: SearchesRows>(
         space.old.nodes.items) ⊎ IsStuck upper.now.base.now.case.now space.old.nodes
         space.new.nodes space.new.bounds.pool }
     ensures same_nodes { nodes_capacity space.new.nodes ≡ nodes_capacity space.old.nodes }
+    ensures ends { deadline.new.ends ≡ deadline.old.ends }
     ensures fits { FitsBound upper.now.base.now.case.now space.new.bounds }
     ensures grows { meter.old ≤ meter.new }
     ensures counted { meter.new ≤ meter.old + extensions_in upper.now.base.now.case.now
         (2 * node_rounds) }
 {
     let at = space.nodes.least();
-    if let Some(is_branched) = branch_at(upper, at, NODE_ROUNDS, space, meter) {
+    if let Some(is_branched) = branch_at(upper, at, NODE_ROUNDS, deadline, space, meter) {
         return is_branched;
     }
-    let rose = raise_at(upper, at, space, meter);
-    match branch_at(upper, at, NODE_ROUNDS / 2, space, meter) {
+    let rose = raise_at(upper, at, deadline, space, meter);
+    match branch_at(upper, at, NODE_ROUNDS / 2, deadline, space, meter) {
         Some(is_branched) => is_branched,
         None => rose,
     }
@@ -101,10 +105,11 @@ pub(crate) fn branch_least<T: SearchesRows>(
 /// Branches the node at an index, and makes this many rounds of searches in each child. Returns false if
 /// there is no capacity for the children. If the pooled rows give no decision, and only then, it makes no
 /// search and returns none.
-fn branch_at<T: SearchesRows>(
+fn branch_at<T: SearchesRows, K: Clock + Copy>(
     upper: &UpperBound<'_>,
     at: usize,
     rounds: u16,
+    deadline: &mut Deadline<K>,
     space: &mut BoundSpace<T>,
     meter: &mut Meter,
 ) -> Option<bool>
@@ -124,6 +129,7 @@ fn branch_at<T: SearchesRows>(
     ensures full { result ≡ Some false → vec_capacity space.old.nodes.items ≤ vec_len
         space.old.nodes.items }
     ensures same_nodes { nodes_capacity space.new.nodes ≡ nodes_capacity space.old.nodes }
+    ensures ends { deadline.new.ends ≡ deadline.old.ends }
     ensures fits { FitsBound upper.now.base.now.case.now space.new.bounds }
     ensures grows { meter.old ≤ meter.new }
     ensures counted { meter.new ≤ meter.old + extensions_in upper.now.base.now.case.now
@@ -133,15 +139,16 @@ fn branch_at<T: SearchesRows>(
     let cap = target_cap(case, Some(upper.total));
     let BoundSpace { bounds, nodes } = space;
     let mut two = choose(case, &nodes.items[at], cap, bounds, &mut nodes.uses)?;
-    raise_node(upper, &mut two.with, rounds, bounds, meter);
-    raise_node(upper, &mut two.without, rounds, bounds, meter);
+    raise_node(upper, &mut two.with, rounds, deadline, bounds, meter);
+    raise_node(upper, &mut two.without, rounds, deadline, bounds, meter);
     Some(nodes.put_children(at, two))
 }
 
 /// Raises the lower bound of the node at an index. Returns whether it rose; if not, no node has changed.
-fn raise_at<T: SearchesRows>(
+fn raise_at<T: SearchesRows, K: Clock + Copy>(
     upper: &UpperBound<'_>,
     at: usize,
+    deadline: &mut Deadline<K>,
     space: &mut BoundSpace<T>,
     meter: &mut Meter,
 ) -> bool
@@ -156,6 +163,7 @@ fn raise_at<T: SearchesRows>(
     ensures count { length space.new.nodes.items.items ≡ length space.old.nodes.items.items }
     ensures same { result ≡ false → space.new.nodes.items.items ≡ space.old.nodes.items.items }
     ensures same_nodes { nodes_capacity space.new.nodes ≡ nodes_capacity space.old.nodes }
+    ensures ends { deadline.new.ends ≡ deadline.old.ends }
     ensures fits { FitsBound upper.now.base.now.case.now space.new.bounds }
     ensures grows { meter.old ≤ meter.new }
     ensures counted { meter.new ≤ meter.old + extensions_in upper.now.base.now.case.now
@@ -164,16 +172,17 @@ fn raise_at<T: SearchesRows>(
     let BoundSpace { bounds, nodes } = space;
     let node = &mut nodes.items[at];
     let before = node.bound;
-    raise_node(upper, node, NODE_ROUNDS, bounds, meter);
+    raise_node(upper, node, NODE_ROUNDS, deadline, bounds, meter);
     node.bound > before
 }
 
-/// Raises the lower bound of a node by at most this many rounds of searches.
+/// Raises the lower bound of a node by at most this many rounds of searches, as long as there is time.
 #[tactic(auto, using(crate::proofs::NodeLaws::raised_priced))]
-fn raise_node<T: SearchesRows>(
+fn raise_node<T: SearchesRows, K: Clock + Copy>(
     upper: &UpperBound<'_>,
     node: &mut Node,
     rounds: u16,
+    deadline: &mut Deadline<K>,
     bounds: &mut BoundWorkspace<T>,
     meter: &mut Meter,
 )
@@ -189,6 +198,7 @@ fn raise_node<T: SearchesRows>(
     ensures priced { IsPriced upper.now.base.now.case.now upper.now.base.now.from
         upper.now.base.now.given.now node.new }
     ensures rises { node.old.bound ≤ node.new.bound }
+    ensures ends { deadline.new.ends ≡ deadline.old.ends }
     ensures fits { FitsBound upper.now.base.now.case.now bounds.new }
     ensures grows { meter.old ≤ meter.new }
     ensures counted { meter.new ≤ meter.old + extensions_in upper.now.base.now.case.now rounds }
@@ -198,7 +208,7 @@ fn raise_node<T: SearchesRows>(
     let decisions = node.decisions.as_slice();
     move_in_node(case, decisions, cap, ROUNDS_BEFORE, bounds, &mut []);
     for made in 0..rounds {
-        if node.bound >= upper.total {
+        if node.bound >= upper.total || deadline.left() == 0 {
             break;
         }
         let bound = round_in_node(upper.base, node.decisions.as_slice(), bounds, meter);

@@ -1,5 +1,5 @@
 -- Which fault a failing reader or writer causes, and that each command has a report.
-use Rattle.std.proofs.Common.{◌≡◌, ◌∙◌, ◌∷◌, [], ◌<◌, ℕ, arith, Err, None, Some, ap, length, lit<, refl, subst, false, true, Bool}
+use Rattle.std.proofs.Common.{◌≡◌, ◌∙◌, ◌∷◌, [], ◌<◌, ℕ, arith, Err, None, Option, Some, ap, length, lit<, refl, subst, false, true, Bool}
 use Rattle.std.specs.Borrow.{Bor}
 use Rattle.std.specs.Prelude.{Contains, IfSome, IsErrOf, option_map, string_bytes}
 use Rattle.roster_text.specs.Io.{IsReadFault, counted, is_read_failure}
@@ -104,6 +104,10 @@ no_plan searches from alone c r nearest fits planned = record {
   is = refl;
 }
 
+-- no number of seconds, no end
+pub none_of : {A B : Type 0} (f : A → B) (o : Option A) → o ≡ None → option_map f o ≡ None
+none_of f o none = ap (λ x. option_map f x) none
+
 -- each command has a report
 some_report : (command : Command) (c : Meaning) (r : Rows) → (p : Report) × IsReportIn command c r p
 some_report command.Show c r = (plain (weeks_text c r), refl)
@@ -111,10 +115,10 @@ some_report command.Cost c r = (cost_report c r, refl)
 some_report command.Sizes c r = (plain (sizes_text c), refl)
 some_report (command.Best nurse from keep) c r = (best_report (string_bytes nurse) from c r, refl)
 some_report (command.Improve rounds from keep) c r = (improve_report rounds from c r, refl)
-some_report (command.Bound rounds nodes from keep) c r = some_report_of_bounds (record { rounds = rounds; nodes = nodes }) from c r
-some_report (command.Polish searches seed from alone keep) c r = (kickless from c r, no_kick (searches_for c searches) from alone c r)
+some_report (command.Bound rounds nodes seconds from keep) c r = (let some = some_report_of_bounds (record { rounds = rounds; nodes = nodes }) from c r in (some.0, record { made = record { rounds = rounds; nodes = nodes }; rounds = omega arith; nodes = omega arith; all = λ e. refl; report = some.1 }))
+some_report (command.Polish searches seconds seed from alone keep) c r = (kickless from c r, no_kick (searches_for c searches seconds) from alone c r)
 some_report (command.Who day shift skill from) c r = some_who (record { day = string_bytes day; shift = string_bytes shift; skill = option_map string_bytes skill }) from c r
-some_report (command.Plan searches seed from keep) c r = (unplanned from r c r, no_plan (searches_for c searches) from false c r r (λ e. e) (planned_self c from r))
+some_report (command.Plan searches seconds seed from keep) c r = (unplanned from r c r, no_plan (searches_for c searches seconds) from false c r r (λ e. e) (planned_self c from r))
 
 pub refused_reading : {W L : Type 0} (output : Output W) (log : Output L) (command : Command) (source : Text) (f : Fault) → StopsReading source f → Untouched output → Untouched log
     → Answers output log command source (Some f)

@@ -1,6 +1,6 @@
 -- How `plan` ends: whatever roster its run reached, it is one that a run reaches from the nearest roster that
 -- it found.
-use Rattle.std.proofs.Common.{◌≡◌, ◌*◌, ◌≤◌, [], ◌∷◌, ℕ, Bool, Err, List, Ok, Option, Result, Some, false, true, refl}
+use Rattle.std.proofs.Common.{◌≡◌, ◌*◌, ◌≤◌, ◌⊎◌, [], ◌∷◌, ℕ, Bool, Err, List, Ok, Option, Result, Some, false, inl, true, refl}
 use Rattle.std.specs.Prelude.{IfErr, OnOk, min}
 use Rattle.roster_text.specs.Io.{Watched, Writes}
 use Rattle.roster_rules.specs.HardRules.{hard_faults}
@@ -30,30 +30,33 @@ none_is_first : (broken : List HardFault) (f : HardFault) → first_fault broken
 none_is_first [] f h = absurd (cc)
 none_is_first (x ∷ xs) f h = refl
 
--- a roster that is reported as not found breaks a hard rule
-pub unfound_after : (c : Meaning) (searches meter : ℕ) (broken : List HardFault) (f : Fault) → IsUnfound c broken f → (is_none_of broken ≡ false → min searches most_searches * day_count c ≤ meter) → HasSearched c searches meter f
-unfound_after c searches meter broken (fault.Text f) h made = tt
-unfound_after c searches meter broken (fault.Case f nurse) h made = tt
-unfound_after c searches meter broken (fault.Hard f d) h made = tt
-unfound_after c searches meter broken (fault.Unfound f d) h made = made (none_is_first broken f h.0)
-unfound_after c searches meter broken (fault.Unknown thing name) h made = tt
-unfound_after c searches meter broken fault.Memory h made = tt
-unfound_after c searches meter broken fault.Workspace h made = tt
-unfound_after c searches meter broken fault.Output h made = tt
-unfound_after c searches meter broken fault.Log h made = tt
+-- a roster that is reported as not found breaks a hard rule; so either all searches were made or another reason
+-- holds
+pub unfound_after : (Reason : Type 0) (c : Meaning) (searches meter : ℕ) (broken : List HardFault) (f : Fault) → IsUnfound c broken f → (is_none_of broken ≡ false → (min searches most_searches * day_count c ≤ meter) ⊎ Reason)
+    → HasSearched c searches meter f ⊎ Reason
+unfound_after reason c searches meter broken (fault.Text f) h made = inl tt
+unfound_after reason c searches meter broken (fault.Case f nurse) h made = inl tt
+unfound_after reason c searches meter broken (fault.Hard f d) h made = inl tt
+unfound_after reason c searches meter broken (fault.Unfound f d) h made = made (none_is_first broken f h.0)
+unfound_after reason c searches meter broken (fault.Unknown thing name) h made = inl tt
+unfound_after reason c searches meter broken fault.Memory h made = inl tt
+unfound_after reason c searches meter broken fault.Workspace h made = inl tt
+unfound_after reason c searches meter broken fault.Output h made = inl tt
+unfound_after reason c searches meter broken fault.Log h made = inl tt
 
 -- an output that fails is no such report
-pub written_after : {X W : Type 0} (c : Meaning) (searches meter : ℕ) (contents : W → Option (List ℕ)) (old new : Watched W) (text : Text) (result : Result X Fault) → IfErr result (StopsOutput contents old new text) → IfErr result (HasSearched c searches meter)
-written_after c searches meter contents old new text (Ok x) h = tt
-written_after c searches meter contents old new text (Err (fault.Text f)) h = tt
-written_after c searches meter contents old new text (Err (fault.Case f nurse)) h = tt
-written_after c searches meter contents old new text (Err (fault.Hard f d)) h = tt
-written_after c searches meter contents old new text (Err (fault.Unfound f d)) h = absurd h
-written_after c searches meter contents old new text (Err (fault.Unknown thing name)) h = tt
-written_after c searches meter contents old new text (Err fault.Memory) h = tt
-written_after c searches meter contents old new text (Err fault.Workspace) h = tt
-written_after c searches meter contents old new text (Err fault.Output) h = tt
-written_after c searches meter contents old new text (Err fault.Log) h = tt
+pub written_after : (Reason : Type 0) {X W : Type 0} (c : Meaning) (searches meter : ℕ) (contents : W → Option (List ℕ)) (old new : Watched W) (text : Text) (result : Result X Fault) → IfErr result (StopsOutput contents old new text)
+    → IfErr result (λ f. HasSearched c searches meter f ⊎ Reason)
+written_after reason c searches meter contents old new text (Ok x) h = tt
+written_after reason c searches meter contents old new text (Err (fault.Text f)) h = inl tt
+written_after reason c searches meter contents old new text (Err (fault.Case f nurse)) h = inl tt
+written_after reason c searches meter contents old new text (Err (fault.Hard f d)) h = inl tt
+written_after reason c searches meter contents old new text (Err (fault.Unfound f d)) h = absurd h
+written_after reason c searches meter contents old new text (Err (fault.Unknown thing name)) h = inl tt
+written_after reason c searches meter contents old new text (Err fault.Memory) h = inl tt
+written_after reason c searches meter contents old new text (Err fault.Workspace) h = inl tt
+written_after reason c searches meter contents old new text (Err fault.Output) h = inl tt
+written_after reason c searches meter contents old new text (Err fault.Log) h = inl tt
 
 module _ (searches from : ℕ) (alone : Bool) (c : Meaning) (r : Rows) {W L : Type 0} (output : Output W) (log : Output L) where
   -- `plan` looks for no roster

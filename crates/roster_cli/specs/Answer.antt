@@ -25,7 +25,7 @@ use Rattle.roster_answers.specs.declared.fault.Fault.TheVariants as fault
 use Rattle.roster_answers.specs.declared.instance.Instance.{Instance}
 use Rattle.roster_request.specs.declared.request.Command.{Command}
 use Rattle.roster_request.specs.declared.request.Command.TheVariants as command
-use Rattle.roster_answers.specs.Answer.{CommandEnd, HasFault, Input, IsBoundReport, IsRefusedFor, IsTaken, IsWhoReport, Leaves, LeavesLog, Logs, Output, ReadsAll, Report, SpellsBundle, ReportsFault, Untouched, best_report, cost_report, improve_report, plain, roster_of}
+use Rattle.roster_answers.specs.Answer.{CommandEnd, HasFault, Input, IsBoundWithin, IsRefusedFor, IsTaken, IsWhoReport, Leaves, LeavesLog, Logs, Output, ReadsAll, Report, SpellsBundle, ReportsFault, Untouched, best_report, cost_report, improve_report, plain, roster_of}
 
 -- ---- a case and its roster: what a command answers for them
 
@@ -69,19 +69,21 @@ pub record IsPlanReport (searches from : ℕ) (alone : Bool) (c : Meaning) (r : 
       → IsPolishing c from nearest (missing c r) searches alone settled last log_text
   pub is : p ≡ plan_report from nearest last log_text c r
 
--- how many searches a run may make: the number asked for, or else 400 for each nurse, and at least 20,000
-abbrev pub searches_for : Meaning → Option ℕ → ℕ
-searches_for c None = max (400 * nurse_count c) 20000
-searches_for c (Some searches) = searches
+-- how many searches a run may make: the number asked for; or else, with a limit of time, the greatest; or
+-- else 400 for each nurse, and at least 20,000
+abbrev pub searches_for : Meaning → (searches seconds : Option ℕ) → ℕ
+searches_for c (Some searches) seconds = searches
+searches_for c None (Some seconds) = most_searches
+searches_for c None None = max (400 * nurse_count c) 20000
 
 -- how many points a command charges for each day that changes from the given roster: the number asked for, up
 -- to the greatest
 abbrev pub keep_of : Command → ℕ
 keep_of (command.Best nurse from keep) = min keep most_keep
 keep_of (command.Improve rounds from keep) = min keep most_keep
-keep_of (command.Bound rounds nodes from keep) = min keep most_keep
-keep_of (command.Polish searches seed from alone keep) = min keep most_keep
-keep_of (command.Plan searches seed from keep) = min keep most_keep
+keep_of (command.Bound rounds nodes seconds from keep) = min keep most_keep
+keep_of (command.Polish searches seconds seed from alone keep) = min keep most_keep
+keep_of (command.Plan searches seconds seed from keep) = min keep most_keep
 keep_of _ = 0
 
 -- the case for which it works, which charges these points for days that change from the given roster
@@ -95,12 +97,12 @@ IsReportIn command.Cost c r p = p ≡ cost_report c r
 IsReportIn command.Sizes c r p = p ≡ plain (sizes_text c)
 IsReportIn (command.Best nurse from keep) c r p = p ≡ best_report (string_bytes nurse) from c r
 IsReportIn (command.Improve rounds from keep) c r p = p ≡ improve_report rounds from c r
-IsReportIn (command.Bound rounds nodes from keep) c r p =
-    IsBoundReport (record { rounds = rounds; nodes = nodes }) from c r p
-IsReportIn (command.Polish searches seed from alone keep) c r p =
-    IsPolishReport (searches_for c searches) from alone c r p
-IsReportIn (command.Plan searches seed from keep) c r p =
-    IsPlanReport (searches_for c searches) from false c r p
+IsReportIn (command.Bound rounds nodes seconds from keep) c r p =
+    IsBoundWithin (record { rounds = rounds; nodes = nodes }) seconds from c r p
+IsReportIn (command.Polish searches seconds seed from alone keep) c r p =
+    IsPolishReport (searches_for c searches seconds) from alone c r p
+IsReportIn (command.Plan searches seconds seed from keep) c r p =
+    IsPlanReport (searches_for c searches seconds) from false c r p
 IsReportIn (command.Who day shift skill from) c r p =
     IsWhoReport (record
     { day = string_bytes day; shift = string_bytes shift; skill = option_map string_bytes skill }) from c r p
@@ -114,11 +116,11 @@ IsReportOf command c r p = IsReportIn command (case_for command c r) r p
 abbrev pub IsReportFor : Command → Instance → Report → Type 0
 IsReportFor command instance p = IsReportIn command instance.case instance.roster p
 
-abbrev pub IsPolishFor : Course → Instance → Report → Type 0
+abbrev pub IsPolishFor : {K : Type 0} → Course K → Instance → Report → Type 0
 IsPolishFor course instance p =
     IsPolishReport course.searches course.from course.kicks_alone instance.case instance.roster p
 
-abbrev pub IsPlanFor : Course → Instance → Report → Type 0
+abbrev pub IsPlanFor : {K : Type 0} → Course K → Instance → Report → Type 0
 IsPlanFor course instance p =
     IsPlanReport course.searches course.from course.kicks_alone instance.case instance.roster p
 

@@ -9,11 +9,14 @@ use roster_answers::{Fault, keep_roster, read_instance, report_fault};
 use roster_instance::CaseFault;
 use roster_request::{Command, Request};
 use roster_text::{Watch, read_all};
+use roster_timer::NoClock;
 use std::alloc::Global;
 use std::io::{Read, Write};
+use std::time::Clock;
 
 /// Answers a request: reads the input to its end, writes the output, and answers the status. The command's
-/// log goes to `log`, all of it before the output begins, and after that the line of a fault.
+/// log goes to `log`, all of it before the output begins, and after that the line of a fault. It has no
+/// clock, so a limit of time doesn't end it.
 pub fn run<R: Read, Out: Write, Log: Write>(
     alloc: Global,
     request: &Request,
@@ -43,12 +46,47 @@ pub fn run<R: Read, Out: Write, Log: Write>(
     ensures device { result ≡ 3 → FailsOnce input.old input.new ⊎ FailsOnce output.old output.new
         ⊎ IsLogFailed (output_of Log.contents log.old log.new) request.now.command }
 {
-    run_command(alloc, &request.command, input, output, log)
+    run_timed(alloc, request, NoClock, input, output, log)
 }
 
-fn run_command<R: Read, Out: Write, Log: Write>(
+/// The same with a clock, by which a run ends that has a limit of time.
+pub fn run_timed<K: Clock + Copy, R: Read, Out: Write, Log: Write>(
+    alloc: Global,
+    request: &Request,
+    clock: K,
+    input: &mut Watch<R>,
+    output: &mut Watch<Out>,
+    log: &mut Watch<Log>,
+) -> u8
+    ensures status { Contains (0 ∷ 1 ∷ 3 ∷ 4 ∷ []) result }
+
+    // What is answered, if nothing is refused.
+    ensures done { result ≡ 0 → IsAnswered (input_of R.remaining input.old input.new)
+        (output_of Out.contents output.old output.new)
+        (output_of Log.contents log.old log.new) request.now.command }
+    ensures silent { result ≡ 0 → IsSilent request.now.command → log.new ≡ log.old }
+
+    // Otherwise there is a fault, with its status and its line.
+    ensures refused { result ≢ 0 → StopsRun (input_of R.remaining input.old input.new)
+        (output_of Out.contents output.old output.new)
+        (output_of Log.contents log.old log.new) request.now.command result }
+
+    // A read or an output write that fails is reported as such. The only other cause of status 3 is a log
+    // that fails.
+    ensures read_failed { input.new.failures ≢ input.old.failures → (result ≡ 3)
+        × (output.new ≡ output.old) × Logs Log.contents log.old log.new (codes "read failed\n") }
+    ensures write_failed { output.new.failures ≢ output.old.failures → (result ≡ 3)
+        × PrintsOutput (output_of Log.contents log.old log.new) request.now.command }
+    ensures device { result ≡ 3 → FailsOnce input.old input.new ⊎ FailsOnce output.old output.new
+        ⊎ IsLogFailed (output_of Log.contents log.old log.new) request.now.command }
+{
+    run_command(alloc, &request.command, clock, input, output, log)
+}
+
+fn run_command<K: Clock + Copy, R: Read, Out: Write, Log: Write>(
     alloc: Global,
     command: &Command,
+    clock: K,
     input: &mut Watch<R>,
     output: &mut Watch<Out>,
     log: &mut Watch<Log>,
@@ -64,16 +102,17 @@ fn run_command<R: Read, Out: Write, Log: Write>(
         Ok(source) => source,
         Err(fault) => return report_fault(Fault::Text(fault), log),
     };
-    match report_bytes(alloc, command, &source, output, log) {
+    match report_bytes(alloc, command, clock, &source, output, log) {
         Ok(()) => 0,
         Err(fault) => report_fault(fault, log),
     }
 }
 
 /// Reports on the instance that the bytes spell.
-fn report_bytes<'a, Out: Write, Log: Write>(
+fn report_bytes<'a, K: Clock + Copy, Out: Write, Log: Write>(
     alloc: Global,
     command: &'a Command,
+    clock: K,
     source: &'a [u8],
     output: &mut Watch<Out>,
     log: &mut Watch<Log>,
@@ -85,5 +124,5 @@ fn report_bytes<'a, Out: Write, Log: Write>(
     let Ok(instance) = keep_roster(alloc, given, keep_of(command)) else {
         return Err(Fault::Case(CaseFault::Memory, &[]));
     };
-    report(alloc, command, instance, output, log)
+    report(alloc, command, clock, instance, output, log)
 }

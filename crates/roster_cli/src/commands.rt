@@ -11,21 +11,24 @@ use roster_answers::{
     Asking, Fault, Instance, report_best, report_bound, report_cost, report_improve, report_sizes,
     report_who, show_weeks,
 };
-use roster_bound::Effort;
+use roster_bound::{Effort, Task};
 use roster_instance::Case;
 use roster_partial::RowSearcher;
-use roster_polish::Course;
+use roster_polish::{Course, MOST_SEARCHES};
 use roster_request::Command;
 use roster_state::Meter;
 use roster_text::Watch;
+use roster_timer::Deadline;
 use std::alloc::Global;
 use std::io::Write;
+use std::time::Clock;
 
 /// Writes what a command reports of an instance, or answers why it is refused. The command's log goes to
 /// `log`.
-pub(crate) fn report<'a, Out: Write, Log: Write>(
+pub(crate) fn report<'a, K: Clock + Copy, Out: Write, Log: Write>(
     alloc: Global,
     command: &'a Command,
+    clock: K,
     mut instance: Instance,
     output: &mut Watch<Out>,
     log: &mut Watch<Log>,
@@ -54,44 +57,53 @@ pub(crate) fn report<'a, Out: Write, Log: Write>(
         Command::Bound {
             rounds,
             nodes,
+            seconds,
             from,
             ..
         } => {
-            let effort = Effort {
-                rounds: *rounds,
-                nodes: *nodes,
+            let task = Task {
+                effort: Effort {
+                    rounds: *rounds,
+                    nodes: *nodes,
+                },
+                from: *from,
+                deadline: Deadline::start(clock, *seconds),
             };
-            report_bound::<RowSearcher, Out, Log>(alloc, effort, *from, instance, output, log)
+            report_bound::<RowSearcher, K, Out, Log>(alloc, task, instance, output, log)
         }
         Command::Polish {
             searches,
+            seconds,
             seed,
             from,
             kicks_alone,
             ..
         } => {
             let course = Course {
-                searches: searches_for(&instance.case, *searches),
+                searches: searches_for(&instance.case, *searches, *seconds),
                 seed: *seed as u64,
                 from: *from,
                 kicks_alone: *kicks_alone,
+                deadline: Deadline::start(clock, *seconds),
             };
             report_polish(alloc, &course, instance, output, log)
         }
         Command::Plan {
             searches,
+            seconds,
             seed,
             from,
             ..
         } => {
-            let course = Course {
-                searches: searches_for(&instance.case, *searches),
+            let mut course = Course {
+                searches: searches_for(&instance.case, *searches, *seconds),
                 seed: *seed as u64,
                 from: *from,
                 kicks_alone: false,
+                deadline: Deadline::start(clock, *seconds),
             };
             let mut meter = Meter::new(&mut instance.case);
-            report_plan(alloc, &course, instance, &mut meter, output, log)
+            report_plan(alloc, &mut course, instance, &mut meter, output, log)
         }
         Command::Who {
             day,
@@ -156,15 +168,16 @@ pub(crate) fn keep_of(command: &Command) -> u16
 /// The most points for such a day.
 const MOST_KEEP: u16 = 100;
 
-/// How many searches a run may make: the number asked for, or else a number for each nurse, and at least a
-/// fixed one.
-fn searches_for(case: &Case, asked: Option<u32>) -> u32
-    ensures { result ≡ searches_for case.now asked }
+/// How many searches a run may make: the number asked for; or else, with a limit of time, as many as a run
+/// can; or else a number for each nurse, and at least a fixed one.
+fn searches_for(case: &Case, searches: Option<u32>, seconds: Option<u32>) -> u32
+    ensures { result ≡ searches_for case.now searches seconds }
 {
     case.keeps_limits();
-    match asked {
-        Some(searches) => searches,
-        None => (SEARCHES_OF_A_NURSE * case.nurses() as u32).max(LEAST_SEARCHES),
+    match (searches, seconds) {
+        (Some(searches), _) => searches,
+        (None, Some(_)) => MOST_SEARCHES,
+        (None, None) => (SEARCHES_OF_A_NURSE * case.nurses() as u32).max(LEAST_SEARCHES),
     }
 }
 

@@ -16,7 +16,7 @@ mod plan;
 mod polish;
 mod start;
 
-pub use answer::run;
+pub use answer::{run, run_timed};
 pub use roster_answers::refuse;
 pub use roster_input::Joined;
 pub use roster_request::{CliFault, Command, Request, request_of};

@@ -1,6 +1,7 @@
 //! The command `plan`: a roster that keeps the hard rules, made from rows that may break them.
 
-ghost use Rattle.std.specs.Prelude.{◌≡◌, [], IfOk, IfErr, OnOk};
+ghost use Rattle.std.specs.Prelude.{◌≡◌, ◌⊎◌, [], IfOk, IfErr, OnOk, true};
+ghost use Rattle.roster_timer.specs.Deadlines.{is_up, time_of};
 ghost use Rattle.roster_rules.specs.HardRules.{hard_faults};
 ghost use Rattle.roster_answers.specs.Answer.{Reports, outcome_of, output_of};
 ghost use Rattle.roster_cli.specs.Answer.{HasSearched, IsPlanFor, IsUnfound};
@@ -16,12 +17,13 @@ use roster_state::Meter;
 use roster_text::Watch;
 use std::alloc::Global;
 use std::io::Write;
+use std::time::Clock;
 
 /// Writes the weeks of an instance after a run that looks for a roster that keeps the hard rules, and then
 /// polishes it. The run's log goes to the log first. The meter is a new one.
-pub(crate) fn report_plan<'a, Out: Write, Log: Write>(
+pub(crate) fn report_plan<'a, K: Clock + Copy, Out: Write, Log: Write>(
     alloc: Global,
-    course: &Course,
+    course: &mut Course<K>,
     mut instance: Instance,
     meter: &mut Meter,
     output: &mut Watch<Out>,
@@ -30,10 +32,12 @@ pub(crate) fn report_plan<'a, Out: Write, Log: Write>(
     requires { meter.old ≡ 0 }
     ensures reports { Reports (output_of Out.contents output.old output.new)
         (output_of Log.contents log.old log.new)
-        (IsPlanFor course.now instance) instance.case (outcome_of result) }
+        (IsPlanFor course.old instance) instance.case (outcome_of result) }
 
-    // No roster is reported as not found before all searches were made.
-    ensures made { IfErr result (HasSearched instance.case course.now.searches meter.new) }
+    // No roster is reported as not found before all searches were made, or the time is up.
+    ensures made { IfErr result (λ fault. HasSearched instance.case course.old.searches meter.new fault
+        ⊎ (is_up (time_of course.new.deadline) ≡ true)) }
+    ensures ends { course.new.deadline.ends ≡ course.old.deadline.ends }
 {
     if let Some(fault) = first_irreparable(&instance.case, &instance.roster, course.from) {
         return Err(Fault::Hard(fault, instance.into_case()));
@@ -42,16 +46,18 @@ pub(crate) fn report_plan<'a, Out: Write, Log: Write>(
     let Ok(mut space) = PolishSpace::<RowSearcher>::for_roster(alloc, case, roster) else {
         return Err(Fault::Workspace);
     };
-    let course = within_capacity(course);
-    searches_fit_meter(case, course.searches);
+    let all = within_capacity(course);
+    searches_fit_meter(case, all.searches);
     let start = missing(case, roster);
-    let left = find_roster(case, roster, &course, &mut space, meter);
+    let rest = find_roster(case, roster, &all, &mut space, meter);
+    course.deadline = rest.deadline;
     let mut held = hold_found(alloc, instance)?;
-    let course = Course {
-        searches: left,
-        ..course
+    let rest = Course {
+        searches: rest.searches,
+        deadline: rest.deadline,
+        ..all
     };
-    match polish_found(&mut held, &course, start, &mut space, meter, log) {
+    match polish_found(&mut held, &rest, start, &mut space, meter, log) {
         Ok(_) => show_weeks(held.case(), held.roster(), output),
         Err(LogFault::LogFailed { .. }) => Err(Fault::Log),
     }

@@ -13,12 +13,13 @@ use roster_state::Meter;
 use roster_text::Watch;
 use std::alloc::Global;
 use std::io::Write;
+use std::time::Clock;
 
 /// Writes the weeks of an instance after a run of fades and neighbourhoods, or of kicks. The run's log goes
 /// to the log first, line by line as it is made.
-pub(crate) fn report_polish<'a, Out: Write, Log: Write>(
+pub(crate) fn report_polish<'a, K: Clock + Copy, Out: Write, Log: Write>(
     alloc: Global,
-    course: &Course,
+    course: &Course<K>,
     mut instance: Instance,
     output: &mut Watch<Out>,
     log: &mut Watch<Log>,
@@ -42,7 +43,7 @@ pub(crate) fn report_polish<'a, Out: Write, Log: Write>(
 
 /// The course, but with no more searches than a new meter surely has capacity for. The command line allows no
 /// more than that.
-pub(crate) fn within_capacity(course: &Course) -> Course
+pub(crate) fn within_capacity<K: Copy>(course: &Course<K>) -> Course<K>
     ensures { result ≡ record course.now { searches = min course.now.searches most_searches } }
 {
     Course {

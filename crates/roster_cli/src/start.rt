@@ -6,7 +6,7 @@ ghost use Rattle.std.specs.Io.Buffered.{writer_buffer, writer_contents};
 ghost use Rattle.roster_answers.specs.Answer.{Logs};
 ghost use Rattle.roster_cli.specs.Start.{AnswersCommandLine, AnswersGiven, AnswersWords, AreUnread, AreWordsOf, EndsOver, FailsToOpenAll, IsUnopened, OpensAll, OpensAndEnds, PrintsWords, SendsText};
 
-use crate::answer::run;
+use crate::answer::run_timed;
 use roster_answers::{refuse, refuse_output};
 use roster_input::Joined;
 use roster_request::{CliFault, Request, request_of};
@@ -15,6 +15,7 @@ use std::alloc::Global;
 use std::env::Args;
 use std::io::{BufWriter, ErrorKind, Read, Write};
 use std::rt::{Env, Files};
+use std::time::Clock;
 use std::{env, fs, io};
 
 const WORDS_ARE_NO_TEXT: &str = "error: a word of the command line is not UTF-8\n";
@@ -23,7 +24,7 @@ const WORDS_ARE_NO_TEXT: &str = "error: a word of the command line is not UTF-8\
 /// to `output`, and answers the status and the output. What the words are, and what the files contain, no
 /// clause can say.
 pub fn answer_command_line<
-    R: Env + Files + AllocGlobal,
+    R: Env + Files + Clock + AllocGlobal,
     In: Read + Drop,
     Out: Write + Drop,
     Log: Write,
@@ -36,7 +37,7 @@ pub fn answer_command_line<
 }
 
 /// The same, with what the system gave for the words.
-fn answer_given<R: Files + AllocGlobal, In: Read + Drop, Out: Write + Drop, Log: Write>(
+fn answer_given<R: Files + Clock + AllocGlobal, In: Read + Drop, Out: Write + Drop, Log: Write>(
     rt: &R,
     given: io::Result<Args>,
     input: In,
@@ -71,7 +72,7 @@ fn words_of(alloc: Global, given: io::Result<Args>) -> Result<Vec<String>, CliFa
 
 /// Does what these words ask for, the program's name being the first of them. Answers the status and the
 /// output.
-pub fn answer_words<R: Files + AllocGlobal, In: Read + Drop, Out: Write + Drop, Log: Write>(
+pub fn answer_words<R: Files + Clock + AllocGlobal, In: Read + Drop, Out: Write + Drop, Log: Write>(
     rt: &R,
     words: &[String],
     input: In,
@@ -86,7 +87,8 @@ pub fn answer_words<R: Files + AllocGlobal, In: Read + Drop, Out: Write + Drop, 
     match request_of(alloc, words) {
         Ok(request) => {
             let mut opener = |path: &str| fs::open(rt, path);
-            answer_request(alloc, &request, &mut opener, input, output, log)
+            let means = Means { alloc, clock: rt };
+            answer_request(means, &request, &mut opener, input, output, log)
         }
         Err(fault) => refuse_words(fault, output, log),
     }
@@ -126,15 +128,23 @@ fn help<Out: Write + Drop, Log: Write>(
     }
 }
 
+/// What a run takes from the system: memory, and the clock by which it ends if it has a limit of time.
+#[derive(Clone, Copy)]
+struct Means<K> {
+    alloc: Global,
+    clock: K,
+}
+
 /// Answers a request over the files that it names, each opened by one call, or over `input` if it names none.
 fn answer_request<
+    K: Clock + Copy,
     File: Read + Drop,
     F: FnMut(&str) -> io::Result<File>,
     In: Read + Drop,
     Out: Write + Drop,
     Log: Write,
 >(
-    alloc: Global,
+    means: Means<K>,
     request: &Request,
     opener: &mut F,
     input: In,
@@ -146,11 +156,12 @@ fn answer_request<
         (writer_contents Out.contents) writer_buffer Log.contents request.now input result.0 output
         result.1 log.old log.new }
 {
+    let Means { alloc, clock } = means;
     if request.files.is_empty() {
-        return run_and_flush(alloc, request, input, output, log);
+        return run_and_flush(alloc, request, clock, input, output, log);
     }
     match open_all(alloc, &request.files, opener) {
-        Ok(files) => run_and_flush(alloc, request, Joined::new(files), output, log),
+        Ok(files) => run_and_flush(alloc, request, clock, Joined::new(files), output, log),
         Err(fault) => (refuse(fault, log), output),
     }
 }
@@ -180,9 +191,10 @@ fn open_all<File: Drop, F: FnMut(&str) -> io::Result<File>>(
 }
 
 /// Answers a request over the bytes of one reader.
-fn run_and_flush<In: Read + Drop, Out: Write + Drop, Log: Write>(
+fn run_and_flush<K: Clock + Copy, In: Read + Drop, Out: Write + Drop, Log: Write>(
     alloc: Global,
     request: &Request,
+    clock: K,
     input: In,
     output: BufWriter<Out>,
     log: &mut Watch<Log>,
@@ -192,7 +204,7 @@ fn run_and_flush<In: Read + Drop, Out: Write + Drop, Log: Write>(
 {
     let mut input = Watch::new(input);
     let mut watched = Watch::new(output);
-    let status = run(alloc, request, &mut input, &mut watched, log);
+    let status = run_timed(alloc, request, clock, &mut input, &mut watched, log);
     let output = watched.into_inner();
     if status != 0 {
         return (status, output);

@@ -14,6 +14,7 @@ use std::io;
 use std::io::{BufWriter, ErrorKind, Read, Seek, SeekFrom, Write};
 use std::rt::{Env, Files};
 use std::test::Fail;
+use std::time::{Clock, Duration};
 
 /// The words of a command line, and the texts of all files: their names are `a`, `b` and so on. For a file of
 /// the name `memory` there is no memory.
@@ -147,6 +148,16 @@ impl<'a> Files for Shelf<'a> {
     }
 
     fn remove_dir_all<B: Allocator>(&self, _alloc: B, _path: &str) -> io::Result<()> {
+        unsupported()
+    }
+}
+
+impl Clock for Shelf<'_> {
+    fn monotonic(&self) -> io::Result<Duration> {
+        unsupported()
+    }
+
+    fn since_1970(&self) -> io::Result<Duration> {
         unsupported()
     }
 }
@@ -301,7 +312,7 @@ fn asks_for_bound(alloc: Global, words: &[&str], (rounds, from, keep): (u16, u16
     let Ok(request) = request_of(alloc, words) else {
         return false;
     };
-    matches!(request.command, Command::Bound { rounds: some, nodes: 0, from: first, keep: kept }
+    matches!(request.command, Command::Bound { rounds: some, nodes: 0, seconds: None, from: first, keep: kept }
         if some == rounds && first == from && kept == keep)
 }
 
@@ -314,7 +325,7 @@ fn asks_for_searches(alloc: Global, words: &[&str], (searches, seed, from, alone
     let Ok(request) = request_of(alloc, words) else {
         return false;
     };
-    matches!(request.command, Command::Polish { searches: some, seed: begin, from: first, kicks_alone, keep: 0 }
+    matches!(request.command, Command::Polish { searches: some, seconds: None, seed: begin, from: first, kicks_alone, keep: 0 }
         if some == searches && begin == seed && first == from && kicks_alone == alone)
 }
 

@@ -20,20 +20,20 @@ made_one c meter new left some more =
 pub made_both : (c : Meaning) (meter left meter2 left2 meter3 left3 : ℕ) → AreMade c meter left meter2 left2 → AreMade c meter2 left2 meter3 left3 → AreMade c meter left meter3 left3
 made_both c meter left meter2 left2 meter3 left3 first later = omega (arith, first, later)
 
--- the searches of rounds over all nurses
-pub made_rounds : (c : Meaning) (rounds searches nurses meter new : ℕ) → nurses ≡ nurse_count c → rounds * nurses ≤ searches → meter + rounds * (nurse_count c * day_count c) ≤ new → AreMade c meter searches new (searches - rounds * nurses)
-made_rounds c rounds searches nurses meter new nurses_are few made =
-    let is : searches ≡ searches - rounds * nurses + rounds * nurses = omega (arith, few) in
-    let so_many : rounds * (nurse_count c * day_count c) ≡ rounds * nurses * day_count c = sym (mul_assoc rounds (nurse_count c) (day_count c)) ∙ ap (λ n. rounds * n * day_count c) (sym nurses_are) in
-    omega (arith, made, so_many, ap (λ m. m * day_count c) is, both_of (searches - rounds * nurses) (rounds * nurses) (day_count c))
+-- a round over all nurses
+pub made_round : (c : Meaning) (meter new left : ℕ) → nurse_count c ≤ left → meter + nurse_count c * day_count c ≤ new → AreMade c meter left new (left - nurse_count c)
+made_round c meter new left enough made =
+    let is : left ≡ left - nurse_count c + nurse_count c = omega (arith, enough) in
+    omega (arith, made, ap (λ m. m * day_count c) is, both_of (left - nurse_count c) (nurse_count c) (day_count c))
 
-pub faded_then : {T : Type 0} {base : Base} {kicking kicking2 kicking3 : Kicking} {space space2 space3 : PolishSpace T} {meter meter2 meter3 : ℕ}
+pub faded_then : {T K : Type 0} {base : Base} {kicking kicking2 kicking3 : Kicking K} {space space2 space3 : PolishSpace T} {meter meter2 meter3 : ℕ}
     → AreFaded base kicking kicking2 space space2 meter meter2 → AreFaded base kicking2 kicking3 space2 space3 meter2 meter3 → AreFaded base kicking kicking3 space space3 meter meter3
 faded_then {base} {kicking} {kicking2} {kicking3} {space} {space2} {space3} {meter} {meter2} {meter3} first later = record {
   kept = later.kept ∙ first.kept;
   best = later.best ∙ first.best;
   frozen = later.frozen;
   passes = later.passes ∙ first.passes;
+  ends = later.ends ∙ first.ends;
   made = made_both base.case.now meter kicking.searches.left meter2 kicking2.searches.left meter3 kicking3.searches.left first.made later.made;
   spends = spent_both base.case.now meter kicking.searches.left meter2 kicking2.searches.left meter3 kicking3.searches.left first.spends later.spends;
   recalls = later.recalls;

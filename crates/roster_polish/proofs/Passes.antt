@@ -1,5 +1,5 @@
 -- A pass: the steps of some nurses in their order.
-use Rattle.std.proofs.Common.{◌≡◌, ◌≢◌, ◌∙◌, ◌+◌, ◌-◌, ◌*◌, ◌<◌, ◌≤◌, ◌⊎◌, ◌++◌, ℕ, zero, suc, Bool, true, false, not, inl, inr, ap, arith, nat_lt, refl, subst, sym, List, [], ◌∷◌}
+use Rattle.std.proofs.Common.{◌≡◌, ◌≢◌, ◌∙◌, ◌+◌, ◌-◌, ◌*◌, ◌<◌, ◌≤◌, ◌⊎◌, ◌++◌, ℕ, zero, suc, Bool, true, false, not, inl, inr, ap, arith, nat_lt, refl, subst, sym, List, [], ◌∷◌, None}
 use Rattle.std.specs.Prelude.{if◌then◌else◌}
 use Rattle.std.specs.List.{fold, range_with_len}
 use Rattle.std.proofs.lemmas.Bool.{cases_Bool, false_from_ne_true, ltb-false, ltb-true, true≢false}
@@ -15,6 +15,8 @@ use Rattle.roster_rules.specs.Penalties.{penalty}
 use Rattle.roster_laws.specs.Greatest.{greatest_extension_count}
 use Rattle.roster_laws.proofs.Runs.{run-goes_on, run-settled, run-stopped}
 use Rattle.roster_laws.proofs.SameRows.{same_rows_is, same_rows_of}
+use Rattle.roster_timer.specs.Deadlines.{is_at_end, is_up, time_of}
+use Rattle.roster_timer.specs.declared.deadline.Deadline.{Deadline}
 use Rattle.roster_polish.specs.declared.descend.Pass.{Pass}
 use Rattle.roster_polish.specs.declared.descend.Pass.TheVariants.{Changed, Stopped, Unchanged}
 use Rattle.roster_polish.specs.Descents.{AreAllNurses, IsPass, LeadTo}
@@ -214,6 +216,10 @@ was_same false end is unchanged = absurd (true≢false (sym (ap is_unchanged (sy
 pub was_other : (same : Bool) (end : Pass) → end ≡ (if same then Unchanged else Changed) → (end ≡ Unchanged → ⊥) → same ≡ false
 was_other true end is changed = absurd (changed is)
 was_other false end is changed = refl
+
+-- a time without an end isn't up
+pub endless : {K : Type 0} (d : Deadline K) → d.ends ≡ None → is_up (time_of d) ≡ true → ⊥
+endless d none up = true≢false (sym up ∙ ap (λ e. is_at_end e d.last d.step) none)
 
 -- searches for the rounds that are left are enough for the next one
 module _ (nurses rounds made left : ℕ) (next : made < rounds) (enough : (rounds - made) * nurses ≤ left) where

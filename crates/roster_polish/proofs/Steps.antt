@@ -76,22 +76,24 @@ spent_both c meter left meter2 left2 meter3 left3 first later = record { fewer =
 pub rest_fits_meter : (c : Meaning) (meter left meter2 left2 most : ℕ) → Spends c meter left meter2 left2 → meter + extensions_of c left ≤ most → meter2 + extensions_of c left2 ≤ most
 rest_fits_meter c meter left meter2 left2 most spends room = omega (arith, spends.counted, room)
 
+-- the same if the clock was read before
+pub spent_read : (c : Meaning) (meter left read meter2 left2 : ℕ) → read ≡ left → Spends c meter read meter2 left2 → Spends c meter left meter2 left2
+spent_read c meter left read meter2 left2 same spends = subst (λ n. Spends c meter n meter2 left2) same spends
+
 pub spent_none : (c : Meaning) (meter left : ℕ) → Spends c meter left meter left
 spent_none c meter left = record { fewer = omega arith; counted = omega arith }
 
--- ---- searches of rounds over all nurses
+-- ---- a round over all nurses
 
-module _ (c : Meaning) (rounds searches nurses : ℕ) (nurses_are : nurses ≡ nurse_count c) (few : rounds * nurses ≤ searches) where
-  so_many : extensions_in c rounds ≡ extensions_of c (rounds * nurses)
-  so_many = sym (mul_assoc rounds (nurse_count c) (greatest_extension_count c)) ∙ ap (λ n. extensions_of c (rounds * n)) (sym nurses_are)
+module _ (c : Meaning) (meter left : ℕ) (enough : nurse_count c ≤ left) where
+  round_of : extensions_of c left ≡ extensions_of c (left - nurse_count c) + extensions_of c (nurse_count c)
+  round_of =
+      let is : left ≡ left - nurse_count c + nurse_count c = omega (arith, enough) in
+      ap (extensions_of c) is ∙ both_of (left - nurse_count c) (nurse_count c) (greatest_extension_count c)
 
-  pub rounds_fit_meter : (meter most : ℕ) → meter + extensions_of c searches ≤ most → meter + extensions_in c rounds ≤ most
-  rounds_fit_meter meter most room = omega (arith, so_many, room, mul-le (rounds * nurses) (greatest_extension_count c) searches (greatest_extension_count c) few (omega arith))
+  pub round_spent : (new : ℕ) → new ≤ meter + nurse_count c * greatest_extension_count c → Spends c meter left new (left - nurse_count c)
+  round_spent new counted = record { fewer = omega arith; counted = omega (arith, counted, round_of) }
 
-  all_of : extensions_of c searches ≡ extensions_of c (searches - rounds * nurses) + extensions_of c (rounds * nurses)
-  all_of =
-      let is : searches ≡ searches - rounds * nurses + rounds * nurses = omega (arith, few) in
-      ap (extensions_of c) is ∙ both_of (searches - rounds * nurses) (rounds * nurses) (greatest_extension_count c)
-
-  pub rounds_spent : (meter new : ℕ) → new ≤ meter + extensions_in c rounds → new + extensions_of c (searches - rounds * nurses) ≤ meter + extensions_of c searches
-  rounds_spent meter new counted = omega (arith, so_many, all_of, counted)
+pub round_fits_meter : (c : Meaning) (meter left meter2 left2 most : ℕ) → Spends c meter left meter2 left2 → meter + extensions_of c left ≤ most → nurse_count c ≤ left2 → meter2 + nurse_count c * greatest_extension_count c ≤ most
+round_fits_meter c meter left meter2 left2 most spends room enough =
+    omega (arith, rest_fits_meter c meter left meter2 left2 most spends room, mul-le (nurse_count c) (greatest_extension_count c) left2 (greatest_extension_count c) enough (omega arith))

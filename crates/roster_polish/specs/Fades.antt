@@ -17,14 +17,15 @@ use Rattle.roster_polish.specs.Settled.{Spends}
 abbrev pub AreMade : Meaning → (meter left new_meter new_left : ℕ) → Type 0
 AreMade c meter left new_meter new_left = meter + left * day_count c ≤ new_meter + new_left * day_count c
 
--- rows were faded from given ones: the kept ones, the best ones and the frozen days stay, searches were made
--- that were left, and the last ones are remembered
-pub record AreFaded {T : Type 0} (base : Base) (kicking_old kicking : Kicking)
+-- rows were faded from given ones: the kept ones, the best ones, the frozen days and the end of the time
+-- stay, searches were made that were left, and the last ones are remembered
+pub record AreFaded {T K : Type 0} (base : Base) (kicking_old kicking : Kicking K)
     (space_old space : PolishSpace T) (meter_old meter : ℕ) : Type 0 where
   pub kept : space.kept ≡ space_old.kept
   pub best : space.best ≡ space_old.best
   pub frozen : FrozenDaysStay base.case.now base.from base.given.now space.faded
   pub passes : kicking.passes ≡ kicking_old.passes
+  pub ends : kicking.searches.deadline.ends ≡ kicking_old.searches.deadline.ends
   pub made : AreMade base.case.now meter_old kicking_old.searches.left meter kicking.searches.left
   pub spends : Spends base.case.now meter_old kicking_old.searches.left meter kicking.searches.left
   pub recalls : RecallsSearchesAt base.case.now base.scale space.fade_last

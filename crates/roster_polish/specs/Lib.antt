@@ -1,3 +1,4 @@
+pub mod Budgets
 pub mod Kicks
 pub mod Settled
 pub mod Polished

@@ -8,7 +8,7 @@ use Rattle.roster_polish.specs.Settled.{Spends}
 
 -- a neighbourhood was searched: the kept roster and the best one stay, searches were made that were left, and
 -- the memory serves the descent
-pub record AreFound {T : Type 0} (c : Meaning) (searches_old searches : Searches)
+pub record AreFound {T K : Type 0} (c : Meaning) (searches_old searches : Searches K)
     (space_old space : PolishSpace T) (meter_old meter : ℕ) : Type 0 where
   pub kept : space.kept ≡ space_old.kept
   pub best : space.best ≡ space_old.best

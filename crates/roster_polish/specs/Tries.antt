@@ -12,7 +12,7 @@ use Rattle.roster_polish.specs.Polished.{FitsPolish}
 use Rattle.roster_polish.specs.Settled.{IsSettled, Spends, extensions_of}
 
 -- searches can be made: there is memory for the case, and the meter can count the searches that are left
-pub record CanSearch {T : Type 0} (c : Meaning) (searches : Searches) (space : PolishSpace T)
+pub record CanSearch {T K : Type 0} (c : Meaning) (searches : Searches K) (space : PolishSpace T)
     (meter : ℕ) : Type 0 where
   -- the memory is that of a run over the case
   pub fits : FitsPolish c space
@@ -20,8 +20,8 @@ pub record CanSearch {T : Type 0} (c : Meaning) (searches : Searches) (space : P
   pub room : meter + extensions_of c searches.left ≤ greatest_u64
 
 -- a changed roster stays if it is settled and no dearer than the kept one; else the kept one comes back
-pub record StaysNoDearer {T : Type 0} (c : Meaning) (from : ℕ) (given : Rows)
-    (held : HeldRoster) (searches_old searches : Searches) (space : PolishSpace T) (meter_old meter : ℕ)
+pub record StaysNoDearer {T K : Type 0} (c : Meaning) (from : ℕ) (given : Rows)
+    (held : HeldRoster) (searches_old searches : Searches K) (space : PolishSpace T) (meter_old meter : ℕ)
     (result : Bool) : Type 0 where
   -- the case is the same
   pub case : held.case ≡ c
@@ -41,8 +41,8 @@ pub record StaysNoDearer {T : Type 0} (c : Meaning) (from : ℕ) (given : Rows)
   pub fits : FitsPolish c space
 
 -- the held roster was changed, and is settled and kept if the result says so; the best one stays aside
-pub record GoesOnSettled {T : Type 0} (c : Meaning) (from : ℕ) (given : Rows)
-    (held : HeldRoster) (searches_old searches : Searches) (space_old space : PolishSpace T)
+pub record GoesOnSettled {T K : Type 0} (c : Meaning) (from : ℕ) (given : Rows)
+    (held : HeldRoster) (searches_old searches : Searches K) (space_old space : PolishSpace T)
     (meter_old meter : ℕ) (result : Bool) : Type 0 where
   -- the case is the same
   pub case : held.case ≡ c
@@ -60,8 +60,9 @@ pub record GoesOnSettled {T : Type 0} (c : Meaning) (from : ℕ) (given : Rows)
   pub fits : FitsPolish c space
 
 -- nurses were kicked out of their rows
-pub record AreKicked {T : Type 0} (from : ℕ) (held_old held : HeldRoster) (searches_old searches : Searches)
-    (space_old space : PolishSpace T) (meter_old meter : ℕ) : Type 0 where
+pub record AreKicked {T K : Type 0} (from : ℕ) (held_old held : HeldRoster)
+    (searches_old searches : Searches K) (space_old space : PolishSpace T)
+    (meter_old meter : ℕ) : Type 0 where
   -- the case is the same
   pub case : held.case ≡ held_old.case
   -- what is kept stays

@@ -17,21 +17,22 @@ use roster_case::Held;
 use roster_offers::SearchesRows;
 use roster_prices::Base;
 use roster_state::Meter;
+use std::time::Clock;
 
 /// Fades the roster again, also if that makes it dearer, runs a descent, and searches neighbourhoods until
 /// they have brought nothing for long. If the roster is then cheaper than the given one, it stays and is
 /// kept; else the given one comes back. Returns whether it stayed.
-pub(crate) fn try_again<T: SearchesRows>(
+pub(crate) fn try_again<T: SearchesRows, K: Clock + Copy>(
     held: &mut Held,
     from: u16,
-    kicking: &mut Kicking,
+    kicking: &mut Kicking<K>,
     space: &mut PolishSpace<T>,
     meter: &mut Meter,
 ) -> bool
     requires able { CanSearch held.old.case kicking.old.searches space.old meter.old }
     ensures tried { StaysNoDearer held.old.case from held.old.roster held.new kicking.old.searches
         kicking.new.searches space.new meter.old meter.new result }
-    ensures decided { StaysIfCheaper held.old.case from kicking.new.searches.left held.old.roster
+    ensures decided { StaysIfCheaper held.old.case from kicking.new.searches held.old.roster
         held.new.roster result }
 {
     held.keeps_rules();
@@ -48,17 +49,17 @@ pub(crate) fn try_again<T: SearchesRows>(
 
 /// Fades the roster, however dear that makes it, runs a descent, and searches neighbourhoods until they have
 /// brought nothing for long. Returns whether the roster is then settled and kept.
-fn fade_and_search<T: SearchesRows>(
+fn fade_and_search<T: SearchesRows, K: Clock + Copy>(
     held: &mut Held,
     from: u16,
-    kicking: &mut Kicking,
+    kicking: &mut Kicking<K>,
     space: &mut PolishSpace<T>,
     meter: &mut Meter,
 ) -> bool
     requires able { CanSearch held.old.case kicking.old.searches space.old meter.old }
     ensures goes_on { GoesOnSettled held.old.case from held.old.roster held.new
         kicking.old.searches kicking.new.searches space.old space.new meter.old meter.new result }
-    ensures searched { IsSearchedOn held.old.case from kicking.new.searches.left held.old.roster
+    ensures searched { IsSearchedOn held.old.case from kicking.new.searches held.old.roster
         held.new.roster result }
 {
     if !fade_anew(held, from, kicking, space, meter) {
@@ -77,17 +78,17 @@ fn fade_and_search<T: SearchesRows>(
 
 /// Fades the roster and runs a descent. If the faded roster keeps the hard rules, it is held and kept,
 /// however dear it is. Returns whether it does and is settled.
-fn fade_anew<T: SearchesRows>(
+fn fade_anew<T: SearchesRows, K: Clock + Copy>(
     held: &mut Held,
     from: u16,
-    kicking: &mut Kicking,
+    kicking: &mut Kicking<K>,
     space: &mut PolishSpace<T>,
     meter: &mut Meter,
 ) -> bool
     requires able { CanSearch held.old.case kicking.old.searches space.old meter.old }
     ensures goes_on { GoesOnSettled held.old.case from held.old.roster held.new
         kicking.old.searches kicking.new.searches space.old space.new meter.old meter.new result }
-    ensures fades { IsFadedAnew held.old.case from kicking.new.searches.left held.old.roster
+    ensures fades { IsFadedAnew held.old.case from kicking.new.searches held.old.roster
         space.new.faded held.new.roster result }
 {
     held.keeps_rules();
@@ -112,11 +113,11 @@ fn fade_anew<T: SearchesRows>(
 
 /// Searches neighbourhoods of a settled roster until they have brought nothing for long, or the last part of
 /// the run begins.
-fn search_on<T: SearchesRows>(
+fn search_on<T: SearchesRows, K: Clock + Copy>(
     held: &mut Held,
     from: u16,
     turns: Turns,
-    searches: &mut Searches,
+    searches: &mut Searches<K>,
     space: &mut PolishSpace<T>,
     meter: &mut Meter,
 )
@@ -130,7 +131,7 @@ fn search_on<T: SearchesRows>(
 {
     let mut since = searches.left;
     for _turn in 0..searches.left {
-        if searches.left <= turns.end || since.saturating_sub(searches.left) > turns.patience {
+        if turns.ends_search(since, searches.remaining()) {
             break;
         }
         let before = held.total();

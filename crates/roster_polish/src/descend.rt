@@ -10,6 +10,7 @@ ghost use Rattle.roster_laws.specs.FrozenDays.{FrozenDaysStay};
 ghost use Rattle.roster_offers.specs.Workspaces.{fits_space};
 ghost use Rattle.roster_row.specs.Recalled.{RecallsSearches};
 ghost use Rattle.roster_polish.specs.declared.descend.Pass.TheVariants.{Changed, Stopped, Unchanged};
+ghost use Rattle.roster_polish.specs.Budgets.{AreOver, IfEndless};
 ghost use Rattle.roster_polish.specs.Descents.{Descends, IsPass};
 ghost use Rattle.roster_polish.specs.Polished.{FitsPolish, first_run, first_searches, descent_searches};
 ghost use Rattle.roster_laws.specs.Settled.{HasBestRow};
@@ -22,6 +23,8 @@ use roster_offers::{SearchesRows, Workspace};
 use roster_rounds::step_or_skip;
 use roster_row::LastSearches;
 use roster_state::Meter;
+use roster_timer::{Deadline, NoClock};
+use std::time::Clock;
 
 /// Where a descent begins, the penalty that is to be reached, and the week before which all is frozen.
 #[derive(Clone, Copy)]
@@ -47,11 +50,11 @@ enum Pass {
     /// No step changed the roster.
     Unchanged,
     Changed,
-    /// No search was left.
+    /// No search was left, or no time.
     Stopped,
 }
 
-/// Runs a descent as `improve` does, and returns whether the roster is then settled.
+/// Runs a descent as `improve` does, however long it takes, and returns whether the roster is then settled.
 pub(crate) fn descend_first<T: SearchesRows>(
     held: &mut Held,
     from: u16,
@@ -73,6 +76,7 @@ pub(crate) fn descend_first<T: SearchesRows>(
     let workspace = &mut bounds.rows.workspace;
     let mut searches = Searches {
         left: MOST_ROUNDS as u64 * held.case().nurses() as u64,
+        deadline: Deadline::start(NoClock, None),
     };
     let first = Stepper { nurse: 0, from };
     for rounds_before in 0..MOST_ROUNDS {
@@ -86,10 +90,10 @@ pub(crate) fn descend_first<T: SearchesRows>(
 /// Makes steps until no nurse has a cheaper row: first from a nurse on, then for all, pass by pass. Each
 /// search is one of those that are left. It gives up if none is left, or if the roster is still too far above
 /// the penalty that is to be reached. Returns whether the roster is settled.
-pub(crate) fn descend<T: SearchesRows>(
+pub(crate) fn descend<T: SearchesRows, K: Clock + Copy>(
     held: &mut Held,
     aim: Aim,
-    searches: &mut Searches,
+    searches: &mut Searches<K>,
     workspace: &mut Workspace<T>,
     last: &mut LastSearches,
     meter: &mut Meter,
@@ -98,7 +102,7 @@ pub(crate) fn descend<T: SearchesRows>(
     requires recalls { RecallsSearches held.old.case last.old }
     requires room { meter.old + extensions_of held.old.case searches.old.left ≤ greatest_u64 }
     ensures case { held.new.case ≡ held.old.case }
-    ensures descent { Descends held.old.case aim.from aim.penalty searches.new.left
+    ensures descent { Descends held.old.case aim.from aim.penalty searches.new
         held.old.roster held.new.roster result }
     ensures frozen { FrozenDaysStay held.old.case aim.from held.old.roster held.new.roster }
     ensures no_dearer { penalty held.old.case held.new.roster ≤ penalty held.old.case
@@ -139,10 +143,10 @@ fn slack(pass: u32) -> u64
 }
 
 /// Makes a step for each nurse from one on.
-fn make_pass<T: SearchesRows>(
+fn make_pass<T: SearchesRows, K: Clock + Copy>(
     held: &mut Held,
     first: Stepper,
-    searches: &mut Searches,
+    searches: &mut Searches<K>,
     workspace: &mut Workspace<T>,
     last: &mut LastSearches,
     meter: &mut Meter,
@@ -151,14 +155,13 @@ fn make_pass<T: SearchesRows>(
     requires recalls { RecallsSearches held.old.case last.old }
     requires room { meter.old + extensions_of held.old.case searches.old.left ≤ greatest_u64 }
     ensures case { held.new.case ≡ held.old.case }
-    ensures round { first.nurse ≡ 0 → nurse_count held.old.case ≤ searches.old.left →
-        held.new.roster ≡ round held.old.case (best_row held.old.case first.from)
-        held.old.roster }
-    ensures end { first.nurse ≡ 0 → nurse_count held.old.case ≤ searches.old.left →
-        result ≡ (if same_rows held.new.roster held.old.roster then Unchanged else Changed) }
+    ensures round { IfEndless held.old.case first.nurse searches.old (held.new.roster ≡ round
+        held.old.case (best_row held.old.case first.from) held.old.roster) }
+    ensures end { IfEndless held.old.case first.nurse searches.old (result ≡ (if same_rows
+        held.new.roster held.old.roster then Unchanged else Changed)) }
     ensures steps { IsPass held.old.case first.from first.nurse held.old.roster held.new.roster
         result }
-    ensures stopped { result ≡ Stopped → searches.new.left ≡ 0 }
+    ensures stopped { result ≡ Stopped → AreOver searches.new }
     ensures falls { result ≡ Changed → penalty held.old.case held.new.roster < penalty held.old.case
         held.old.roster }
     ensures unchanged { result ≡ Unchanged → (n : ℕ) → first.nurse ≤ n →
@@ -169,12 +172,13 @@ fn make_pass<T: SearchesRows>(
     ensures few { first.nurse ≡ 0 →
         searches.old.left ≤ searches.new.left + nurse_count held.old.case }
     ensures spends { Spends held.old.case meter.old searches.old.left meter.new searches.new.left }
+    ensures ends { searches.new.deadline.ends ≡ searches.old.deadline.ends }
     ensures fits { fits_space held.old.case workspace.new ≡ true }
     ensures recalls { RecallsSearches held.old.case last.new }
 {
     let mut changed = false;
     for nurse in first.nurse..held.case().nurses() {
-        if searches.left == 0 {
+        if searches.are_over() {
             return Pass::Stopped;
         }
         let stepper = Stepper {
@@ -192,10 +196,10 @@ fn make_pass<T: SearchesRows>(
 
 /// Makes a nurse's step. If it takes a search, that is one of those that are left. Returns whether it changed
 /// the roster.
-fn step_within<T: SearchesRows>(
+fn step_within<T: SearchesRows, K: Clock + Copy>(
     held: &mut Held,
     stepper: Stepper,
-    searches: &mut Searches,
+    searches: &mut Searches<K>,
     workspace: &mut Workspace<T>,
     last: &mut LastSearches,
     meter: &mut Meter,
@@ -212,6 +216,7 @@ fn step_within<T: SearchesRows>(
     ensures frozen { FrozenDaysStay held.old.case stepper.from held.old.roster held.new.roster }
     ensures one { searches.old.left ≤ searches.new.left + 1 }
     ensures spends { Spends held.old.case meter.old searches.old.left meter.new searches.new.left }
+    ensures ends { searches.new.deadline.ends ≡ searches.old.deadline.ends }
     ensures fits { fits_space held.old.case workspace.new ≡ true }
     ensures recalls { RecallsSearches held.old.case last.new }
 {

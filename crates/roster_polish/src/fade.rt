@@ -17,17 +17,20 @@ ghost use Rattle.roster_polish.specs.Tries.{CanSearch, StaysNoDearer};
 use crate::descend::Aim;
 use crate::kick::Kicking;
 use crate::random::Random;
+use crate::searches::Left;
 use crate::space::PolishSpace;
 use crate::stay::stay_if_no_dearer;
 use crate::visit::{Turn, visit};
 use roster_case::Held;
 use roster_costs::first_hard;
+use roster_instance::Case;
 use roster_offers::SearchesRows;
 use roster_prices::{
     Base, Fading, Terms, WHOLE, follow_cover, has_uncovered_slot, price_slots, put_row, take_row,
 };
 use roster_slots::FINE_PER_POINT;
 use roster_state::Meter;
+use std::time::Clock;
 
 /// How many more passes a fade makes if slots are below their minimums: three times two.
 const MORE_PASSES: u64 = 6;
@@ -36,21 +39,21 @@ const MORE_PASSES: u64 = 6;
 /// times as many.
 const BELOW_MINIMUM: u32 = 100;
 
-/// The length of a fade: its passes; its searches, after which its last passes follow at once; and in the
-/// last of how many parts of its searches the share of the dual prices falls at the latest.
+/// The length of a fade: its passes; its searches, or microseconds, after which its last passes follow at
+/// once; and in the last of how many parts of either the share of the dual prices falls at the latest.
 #[derive(Clone, Copy)]
 struct Length {
     passes: u64,
-    searches: u64,
+    most: Left,
     parts: u64,
 }
 
 /// Fades the roster and runs a descent. If the roster is then settled and no dearer, it stays and is kept;
 /// else the kept one comes back. Returns whether it stayed.
-pub(crate) fn try_fade<T: SearchesRows>(
+pub(crate) fn try_fade<T: SearchesRows, K: Clock + Copy>(
     held: &mut Held,
     from: u16,
-    kicking: &mut Kicking,
+    kicking: &mut Kicking<K>,
     space: &mut PolishSpace<T>,
     meter: &mut Meter,
 ) -> bool
@@ -60,7 +63,7 @@ pub(crate) fn try_fade<T: SearchesRows>(
     ensures tried { StaysNoDearer held.old.case from held.old.roster held.new kicking.old.searches
         kicking.new.searches space.new meter.old meter.new result }
     ensures decided { 0 < kicking.old.passes → FadeStays held.old.case from
-        kicking.new.searches.left held.old.roster space.new.faded held.new.roster result }
+        kicking.new.searches held.old.roster space.new.faded held.new.roster result }
 {
     held.keeps_rules();
     let base = Base::of(held, from);
@@ -83,9 +86,9 @@ pub(crate) fn try_fade<T: SearchesRows>(
 }
 
 /// Fades rows, and returns whether they then keep the hard rules. The frozen days are as given.
-pub(crate) fn fade_rows<T: SearchesRows>(
+pub(crate) fn fade_rows<T: SearchesRows, K: Clock + Copy>(
     base: &Base<'_>,
-    kicking: &mut Kicking,
+    kicking: &mut Kicking<K>,
     space: &mut PolishSpace<T>,
     meter: &mut Meter,
 ) -> bool
@@ -97,25 +100,23 @@ pub(crate) fn fade_rows<T: SearchesRows>(
     ensures faded { AreFaded base.now kicking.old kicking.new space.old space.new meter.old
         meter.new }
 {
-    let before = kicking.searches.left;
-    let length = Length {
-        passes: kicking.passes,
-        searches: (kicking.passes / kicking.passes_per_search.max(1)).saturating_mul(
-            base.case.nurses() as u64,
-        ),
-        parts: kicking.passes_per_search / 2,
-    };
+    let before = kicking.searches.remaining();
+    let length = length_of(base.case, kicking);
     space.begin_fade(base.case, base.given);
     for pass in 0..length.passes.saturating_add(MORE_PASSES) {
         if kicking.searches.left == 0 {
+            break;
+        }
+        if pass > 0 && kicking.searches.time_left() == 0 {
             break;
         }
         let is_more = pass >= length.passes && (pass - length.passes) % 2 == 0;
         if is_more && !has_uncovered_slot(base.case, &space.bounds) {
             break;
         }
-        let made = before - kicking.searches.left;
-        if made > length.searches && pass < length.passes.saturating_sub(LAST_PASSES) {
+        let made = kicking.searches.made_since(before);
+        let is_long = made.searches > length.most.searches || made.micros > length.most.micros;
+        if pass > 0 && is_long && pass < length.passes.saturating_sub(LAST_PASSES) {
             continue;
         }
         let fading = fading_in(pass, made, length);
@@ -126,23 +127,46 @@ pub(crate) fn fade_rows<T: SearchesRows>(
     first_hard(base.case, &space.faded).is_none()
 }
 
+/// How long a fade is.
+fn length_of<K>(case: &Case, kicking: &Kicking<K>) -> Length
+    ensures { result.passes ≡ kicking.now.passes }
+{
+    let each = kicking.passes / kicking.passes_per_search.max(1);
+    Length {
+        passes: kicking.passes,
+        most: Left {
+            searches: each.saturating_mul(case.nurses() as u64),
+            micros: kicking.fade_micros,
+        },
+        parts: if each >= SEARCHES_FOR_QUARTER { 4 } else { 2 },
+    }
+}
+
+/// From this many searches for each nurse on the share falls in the last quarter of them, and else in the
+/// last half.
+const SEARCHES_FOR_QUARTER: u64 = 200;
+
 /// How many passes at the end of a fade go by the true prices alone.
 const LAST_PASSES: u64 = 2;
 
-/// How far a fade has come in one of its passes, after `made` searches. The share of the dual prices falls
+/// How far a fade has come in one of its passes, after what it has `made`. The share of the dual prices falls
 /// from all to none, which it has in the last two passes and from there on: as the square root of the passes
-/// that are left, or of the last part of the searches if that is less.
-fn fading_in(pass: u64, made: u64, length: Length) -> Fading {
+/// that are left, or of the last part of the searches or of the time if that is less.
+fn fading_in(pass: u64, made: Left, length: Length) -> Fading {
     let even = length.passes.saturating_sub(LAST_PASSES);
-    let parts = length
-        .searches
-        .saturating_sub(made)
-        .saturating_mul(length.parts);
-    let left = share_of(even.saturating_sub(pass), even).min(share_of(parts, length.searches));
+    let left = share_of(even.saturating_sub(pass), even)
+        .min(share_left(made.searches, length.most.searches, length.parts))
+        .min(share_left(made.micros, length.most.micros, length.parts));
     Fading {
         share: root_of(left),
         missing: BELOW_MINIMUM * times_in(pass, length.passes),
     }
+}
+
+/// How much is left of the last of some equal parts of `all`, after `made` of it, in 1024ths; all of it
+/// before that part begins.
+fn share_left(made: u64, all: u64, parts: u64) -> u32 {
+    share_of(all.saturating_sub(made).saturating_mul(parts), all)
 }
 
 /// How much `part` is of `all`, in 1024ths.
@@ -195,10 +219,10 @@ fn times_in(pass: u64, passes: u64) -> u32
 
 /// Gives each nurse, in an order that is drawn, the best row by what the slots pay without her row. Nurses
 /// who can gain little are left out, but never the first one.
-pub(crate) fn make_fade_pass<T: SearchesRows>(
+pub(crate) fn make_fade_pass<T: SearchesRows, K: Clock + Copy>(
     base: &Base<'_>,
     fading: Fading,
-    kicking: &mut Kicking,
+    kicking: &mut Kicking<K>,
     space: &mut PolishSpace<T>,
     meter: &mut Meter,
 )
@@ -216,6 +240,9 @@ pub(crate) fn make_fade_pass<T: SearchesRows>(
     shuffle(&mut space.order, &mut kicking.random);
     for position in 0..base.case.nurses() {
         if kicking.searches.left == 0 {
+            break;
+        }
+        if position > 0 && kicking.searches.time_left() == 0 {
             break;
         }
         let nurse = space.order[position];

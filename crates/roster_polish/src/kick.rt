@@ -21,15 +21,18 @@ use crate::turns::Turns;
 use roster_case::Held;
 use roster_offers::{SearchesRows, Workspace};
 use roster_state::Meter;
+use std::time::Clock;
 
 /// What a fade and kicks take: searches and random numbers; how many passes the fade makes, 0 if there is no
-/// fade; in how many of them each nurse may be searched once; and whose turn it is after the first fade.
+/// fade; in how many of them each nurse may be searched once; how many microseconds a fade takes at most; and
+/// whose turn it is after the first fade.
 #[derive(Clone, Copy)]
-pub(crate) struct Kicking {
-    pub(crate) searches: Searches,
+pub(crate) struct Kicking<K> {
+    pub(crate) searches: Searches<K>,
     pub(crate) random: Random,
     pub(crate) passes: u64,
     pub(crate) passes_per_search: u64,
+    pub(crate) fade_micros: u64,
     pub(crate) turns: Turns,
 }
 
@@ -46,10 +49,10 @@ struct Draw {
 
 /// Kicks a few nurses out of their rows and runs a descent. If the roster is then settled and no dearer, it
 /// stays and is kept; else the kept one comes back. Returns whether it stayed.
-pub(crate) fn try_kick<T: SearchesRows>(
+pub(crate) fn try_kick<T: SearchesRows, K: Clock + Copy>(
     held: &mut Held,
     from: u16,
-    kicking: &mut Kicking,
+    kicking: &mut Kicking<K>,
     space: &mut PolishSpace<T>,
     meter: &mut Meter,
 ) -> bool
@@ -57,7 +60,7 @@ pub(crate) fn try_kick<T: SearchesRows>(
     requires kept { space.old.kept ≡ held.old.roster }
     ensures tried { StaysNoDearer held.old.case from held.old.roster held.new kicking.old.searches
         kicking.new.searches space.new meter.old meter.new result }
-    ensures decided { KickStays held.old.case from kicking.new.searches.left held.old.roster
+    ensures decided { KickStays held.old.case from kicking.new.searches held.old.roster
         held.new.roster result }
 {
     held.keeps_rules();
@@ -73,10 +76,10 @@ pub(crate) fn try_kick<T: SearchesRows>(
 
 /// Gives one to three nurses the best rows by the prices of a kick, and returns the nurse after the last of
 /// them.
-fn kick_nurses<T: SearchesRows>(
+fn kick_nurses<T: SearchesRows, K: Clock + Copy>(
     held: &mut Held,
     from: u16,
-    kicking: &mut Kicking,
+    kicking: &mut Kicking<K>,
     space: &mut PolishSpace<T>,
     meter: &mut Meter,
 ) -> usize
@@ -117,11 +120,11 @@ fn draw_kick(weeks: u16, from: u16, random: &mut Random) -> Draw
 }
 
 /// Kicks one nurse, who is drawn, and returns the nurse after her.
-fn kick_one<T: SearchesRows>(
+fn kick_one<T: SearchesRows, K: Clock + Copy>(
     held: &mut Held,
     draw: Draw,
     from: u16,
-    kicking: &mut Kicking,
+    kicking: &mut Kicking<K>,
     space: &mut PolishSpace<T>,
     meter: &mut Meter,
 ) -> usize

@@ -29,7 +29,7 @@ mod turns;
 mod visit;
 
 pub use laws::end_is_cheapest;
-pub use plan::find_roster;
+pub use plan::{Rest, find_roster};
 pub use room::{MOST_SEARCHES, searches_fit_meter};
 pub use run::{Course, Polished, polish, polish_found};
 pub use space::PolishSpace;

@@ -21,13 +21,14 @@ use roster_offers::SearchesRows;
 use roster_prices::NearBase;
 use roster_rules::is_frozen;
 use roster_state::Meter;
+use std::time::Clock;
 
 /// Searches a neighbourhood, puts in the rows that it finds, and runs a descent. If the roster is then
 /// settled and no dearer, it stays and is kept; else the kept one comes back. Returns whether it stayed.
-pub(crate) fn try_near<T: SearchesRows>(
+pub(crate) fn try_near<T: SearchesRows, K: Clock + Copy>(
     held: &mut Held,
     from: u16,
-    searches: &mut Searches,
+    searches: &mut Searches<K>,
     space: &mut PolishSpace<T>,
     meter: &mut Meter,
 ) -> bool
@@ -53,9 +54,9 @@ pub(crate) fn try_near<T: SearchesRows>(
 
 /// Searches a neighbourhood of a roster. If it finds rows, and the roster keeps the hard rules with them,
 /// that roster is in the space's `faded`, with the frozen days as given.
-fn find_rows<T: SearchesRows>(
+fn find_rows<T: SearchesRows, K: Clock + Copy>(
     base: &NearBase<'_>,
-    searches: &mut Searches,
+    searches: &mut Searches<K>,
     space: &mut PolishSpace<T>,
     meter: &mut Meter,
 ) -> bool

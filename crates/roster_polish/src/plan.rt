@@ -7,10 +7,11 @@ ghost use Rattle.roster_rules.specs.HardRules.{keeps_hard};
 ghost use Rattle.roster_prices.specs.LowerBounds.{HaveRows};
 ghost use Rattle.roster_laws.specs.FrozenDays.{FrozenDaysStay};
 ghost use Rattle.roster_row.specs.Recalled.{RecallsSearchesAt};
+ghost use Rattle.roster_polish.specs.Budgets.{AreOver};
 ghost use Rattle.roster_polish.specs.Fades.{AreFaded, AreMade};
 ghost use Rattle.roster_costs.specs.Minimums.{missing};
 ghost use Rattle.roster_costs.specs.Irreparable.{irreparable};
-ghost use Rattle.roster_polish.specs.Plans.{IsNoFarther, IsPlanned, keeps_rows};
+ghost use Rattle.roster_polish.specs.Plans.{IsNoFarther, IsPlanned, IsUsedUp, keeps_rows};
 ghost use Rattle.roster_polish.specs.Polished.{FitsPolish};
 ghost use Rattle.roster_polish.specs.Settled.{Spends, extensions_of};
 ghost use Rattle.roster_polish.specs.Tries.{CanSearch};
@@ -19,7 +20,7 @@ use crate::fade::{fade_rows, make_fade_pass};
 use crate::kick::Kicking;
 use crate::random::Random;
 use crate::run::{Course, rounds_within};
-use crate::searches::Searches;
+use crate::searches::{MOST_MICROS, Searches};
 use crate::space::PolishSpace;
 use crate::turns::Turns;
 use roster_costs::{first_absent_before, first_hard, first_succession_before, missing};
@@ -28,6 +29,8 @@ use roster_offers::{SearchesRows, greatest_scale};
 use roster_prices::{Base, Fading, WHOLE, has_uncovered_slot, raise_uncovered};
 use roster_slots::MOST_DUAL_PRICE;
 use roster_state::Meter;
+use roster_timer::Deadline;
+use std::time::Clock;
 
 /// How many passes the first fade makes. Each later one makes twice as many as the one before.
 const FIRST_PASSES: u64 = 120;
@@ -64,17 +67,24 @@ const MOST_ROUNDS: u32 = 30;
 /// These rounds take at most one of this many parts of the searches.
 const ROUNDS_DIVISOR: u32 = 4;
 
+/// What a search for a first roster leaves: this many searches, and the rest of the time.
+#[derive(Clone, Copy)]
+pub struct Rest<K> {
+    pub searches: u32,
+    pub deadline: Deadline<K>,
+}
+
 /// Looks for a roster that keeps the hard rules: fades the rows, each time in twice as many passes, until
-/// they do or no search is left. Of the given roster and those with which the fades end, it then leaves the
-/// one that is short of the fewest nurses to the minimums; the given one counts only if it breaks minimums
-/// alone. Returns how many searches are left. It takes no memory.
-pub fn find_roster<T: SearchesRows>(
+/// they do, or no search or no time is left. Of the given roster and those with which the fades end, it then
+/// leaves the one that is short of the fewest nurses to the minimums; the given one counts only if it breaks
+/// minimums alone. Returns what is left. It takes no memory.
+pub fn find_roster<T: SearchesRows, K: Clock + Copy>(
     case: &Case,
     roster: &mut Roster,
-    course: &Course,
+    course: &Course<K>,
     space: &mut PolishSpace<T>,
     meter: &mut Meter,
-) -> u32
+) -> Rest<K>
     requires roster { fits_case case.now roster.old ≡ true }
     requires repairable { irreparable case.now course.now.from roster.old ≡ [] }
     requires fits { FitsPolish case.now space.old }
@@ -85,15 +95,19 @@ pub fn find_roster<T: SearchesRows>(
     // frozen days.
     ensures planned { IsPlanned case.now course.now.from roster.old roster.new }
 
-    // A roster that breaks a hard rule is left only if each search was made.
-    ensures given_up { keeps_hard case.now roster.new ≡ false → result ≡ 0 }
-    ensures made { AreMade case.now meter.old course.now.searches meter.new result }
-    ensures spends { Spends case.now meter.old course.now.searches meter.new result }
+    // A roster that breaks a hard rule is left only if each search was made, or the time is up.
+    ensures given_up { keeps_hard case.now roster.new ≡ false → IsUsedUp result }
+    ensures ends { result.deadline.ends ≡ course.now.deadline.ends }
+    ensures made { AreMade case.now meter.old course.now.searches meter.new result.searches }
+    ensures spends { Spends case.now meter.old course.now.searches meter.new result.searches }
     ensures fits { FitsPolish case.now space.new }
 {
     let all = course.searches;
     if first_hard(case, roster).is_none() {
-        return all;
+        return Rest {
+            searches: all,
+            deadline: course.deadline,
+        };
     }
     repairable_rows_exist(case, roster, course.from);
     let base = Base {
@@ -105,7 +119,19 @@ pub fn find_roster<T: SearchesRows>(
     let mut kicking = begin_plan(&base, course, space, meter);
     fade_until_kept(&base, &mut kicking, space, meter);
     roster.put_rows(&space.kept);
-    kicking.searches.left as u32
+    let searches = left_of(kicking.searches.left, all);
+    Rest {
+        searches,
+        deadline: kicking.searches.deadline,
+    }
+}
+
+/// What is left of a number, as a number of the same type.
+fn left_of(left: u64, all: u32) -> u32
+    requires { left ≤ all }
+    ensures { result ≡ left }
+{
+    left as u32
 }
 
 /// A law: if nothing is irreparable, each nurse has a row that agrees with the frozen days.
@@ -117,16 +143,17 @@ fn repairable_rows_exist(case: &Case, roster: &Roster, from: u16)
 
 /// Improves the dual prices from which the fades begin, also those of the run that follows, and keeps the
 /// given rows.
-fn begin_plan<T: SearchesRows>(
+fn begin_plan<T: SearchesRows, K: Clock + Copy>(
     base: &Base<'_>,
-    course: &Course,
+    course: &Course<K>,
     space: &mut PolishSpace<T>,
     meter: &mut Meter,
-) -> Kicking
+) -> Kicking<K>
     requires fits { FitsPolish base.now.case.now space.old }
     requires room { meter.old + extensions_of base.now.case.now course.now.searches ≤ greatest_u64 }
     ensures kept { space.new.kept ≡ base.now.given.now }
     ensures passes { 0 < result.passes }
+    ensures ends { result.searches.deadline.ends ≡ course.now.deadline.ends }
     ensures made { AreMade base.now.case.now meter.old course.now.searches meter.new
         result.searches.left }
     ensures spends { Spends base.now.case.now meter.old course.now.searches meter.new
@@ -136,24 +163,28 @@ fn begin_plan<T: SearchesRows>(
     base.case.keeps_limits();
     let nurses = base.case.nurses() as u32;
     let rounds = rounds_within(course.searches, ROUNDS_DIVISOR, MOST_ROUNDS, nurses);
-    space.improve_prices(base, rounds as u16, None, meter);
+    let mut searches = Searches {
+        left: course.searches as u64,
+        deadline: course.deadline,
+    };
+    space.improve_prices(base, rounds as u16, None, &mut searches, meter);
     space.has_prices = true;
     space.kept.put_rows(base.given);
     Kicking {
-        searches: Searches {
-            left: (course.searches - rounds * nurses) as u64,
-        },
+        searches,
         random: Random::of_seed(course.seed),
         passes: FIRST_PASSES,
         passes_per_search: PASSES_PER_SEARCH,
+        fade_micros: MOST_MICROS,
         turns: Turns::default(),
     }
 }
 
-/// Fades the given rows until they keep the hard rules or no search is left, and keeps the nearest ones.
-fn fade_until_kept<T: SearchesRows>(
+/// Fades the given rows until they keep the hard rules or no search or time is left, and keeps the nearest
+/// ones.
+fn fade_until_kept<T: SearchesRows, K: Clock + Copy>(
     base: &Base<'_>,
-    kicking: &mut Kicking,
+    kicking: &mut Kicking<K>,
     space: &mut PolishSpace<T>,
     meter: &mut Meter,
 )
@@ -162,7 +193,8 @@ fn fade_until_kept<T: SearchesRows>(
     requires passes { 0 < kicking.old.passes }
     ensures nearer { IsNoFarther base.now.case.now base.now.given.now space.new.kept }
     ensures given_up { keeps_hard base.now.case.now space.new.kept ≡ false →
-        kicking.new.searches.left ≡ 0 }
+        AreOver kicking.new.searches }
+    ensures ends { kicking.new.searches.deadline.ends ≡ kicking.old.searches.deadline.ends }
     ensures frozen { FrozenDaysStay base.now.case.now base.now.from base.now.given.now
         space.new.kept }
     ensures made { AreMade base.now.case.now meter.old kicking.old.searches.left meter.new
@@ -172,7 +204,7 @@ fn fade_until_kept<T: SearchesRows>(
     ensures fits { FitsPolish base.now.case.now space.new }
 {
     let mut least = least_before(base);
-    'fades: while kicking.searches.left > 0 {
+    'fades: while !kicking.searches.are_over() {
         if fade_and_repair(base, kicking, space, meter) {
             space.kept.put_rows(&space.faded);
             return;
@@ -207,9 +239,9 @@ fn least_before(base: &Base<'_>) -> u64
 
 /// Fades the given rows, and repairs them if they then break a minimum. Returns whether they keep the hard
 /// rules. At least one search is made, and the frozen days are as given.
-fn fade_and_repair<T: SearchesRows>(
+fn fade_and_repair<T: SearchesRows, K: Clock + Copy>(
     base: &Base<'_>,
-    kicking: &mut Kicking,
+    kicking: &mut Kicking<K>,
     space: &mut PolishSpace<T>,
     meter: &mut Meter,
 ) -> bool
@@ -227,12 +259,12 @@ fn fade_and_repair<T: SearchesRows>(
     repair_rows(base, kicking, space, meter)
 }
 
-/// Gives the nurses new rows, pass by pass, until no slot is below its minimum or the passes or the searches
-/// end. Slots below their minimums pay more each time, and in the last passes more than all else. Returns
-/// whether the rows then keep the hard rules. The frozen days are as given.
-fn repair_rows<T: SearchesRows>(
+/// Gives the nurses new rows, pass by pass, until no slot is below its minimum or the passes, the searches or
+/// the time end. Slots below their minimums pay more each time, and in the last passes more than all else.
+/// Returns whether the rows then keep the hard rules. The frozen days are as given.
+fn repair_rows<T: SearchesRows, K: Clock + Copy>(
     base: &Base<'_>,
-    kicking: &mut Kicking,
+    kicking: &mut Kicking<K>,
     space: &mut PolishSpace<T>,
     meter: &mut Meter,
 ) -> bool
@@ -246,6 +278,9 @@ fn repair_rows<T: SearchesRows>(
 {
     for pass in 0..REPAIR_PASSES {
         if !has_uncovered_slot(base.case, &space.bounds) {
+            break;
+        }
+        if pass > 0 && kicking.searches.time_left() == 0 {
             break;
         }
         raise_uncovered(base.case, RAISE, &mut space.bounds);

@@ -5,11 +5,10 @@ ghost use Rattle.roster_bundle.specs.Limits.{greatest_u64};
 ghost use Rattle.roster_instance.specs.Limits.{most_nurses};
 ghost use Rattle.roster_instance.specs.Meaning.{nurse_count};
 ghost use Rattle.roster_laws.specs.FrozenDays.{FrozenDaysStay};
-ghost use Rattle.roster_laws.specs.Greatest.{extensions_in};
 ghost use Rattle.roster_rules.specs.Penalties.{penalty};
 ghost use Rattle.roster_polish.specs.Descents.{KickStays};
 ghost use Rattle.roster_polish.specs.Polished.{FitsPolish, GivenLogStops, PolishLogStops, Polishes, PolishesGiven, first_searches, descent_searches};
-ghost use Rattle.roster_polish.specs.Settled.{extensions_of};
+ghost use Rattle.roster_polish.specs.Settled.{Spends, extensions_of};
 ghost use Rattle.roster_polish.specs.Tries.{CanSearch, StaysNoDearer};
 
 use crate::again::try_again;
@@ -19,7 +18,7 @@ use crate::kick::{Kicking, try_kick};
 use crate::log::log_kick;
 use crate::near::try_near;
 use crate::random::Random;
-use crate::searches::Searches;
+use crate::searches::{MOST_MICROS, Searches};
 use crate::space::PolishSpace;
 use crate::turns::Turns;
 use roster_case::Held;
@@ -28,16 +27,20 @@ use roster_prices::Base;
 use roster_reports::{LogFault, log_start, log_word};
 use roster_state::Meter;
 use roster_text::Watch;
+use roster_timer::Deadline;
 use std::io::Write;
+use std::time::Clock;
 
 /// How a run is made: how many searches it may take besides those of the first descent, the seed of its
-/// random numbers, the week before which all is frozen, and whether it makes kicks alone, and no fade.
-#[derive(Clone, Copy, Debug, PartialEq, Eq)]
-pub struct Course {
+/// random numbers, the week before which all is frozen, whether it makes kicks alone, and no fade, and when
+/// its time ends. The first descent isn't cut off by that.
+#[derive(Clone, Copy)]
+pub struct Course<K> {
     pub searches: u32,
     pub seed: u64,
     pub from: u16,
     pub kicks_alone: bool,
+    pub deadline: Deadline<K>,
 }
 
 /// How a run ended: whether it is certain that no nurse has a cheaper row, and the penalty at the end.
@@ -57,9 +60,9 @@ pub struct Polished {
 ///
 /// The log failed. The roster is then that of the first line that didn't wholly go out: the given one at the
 /// first line, and at the others the one that the line reports.
-pub fn polish<W: Write, T: SearchesRows>(
+pub fn polish<W: Write, T: SearchesRows, K: Clock + Copy>(
     held: &mut Held,
-    course: &Course,
+    course: &Course<K>,
     space: &mut PolishSpace<T>,
     meter: &mut Meter,
     log: &mut Watch<W>,
@@ -91,9 +94,9 @@ pub fn polish<W: Write, T: SearchesRows>(
 /// # Errors
 ///
 /// As those of `polish`.
-pub fn polish_found<W: Write, T: SearchesRows>(
+pub fn polish_found<W: Write, T: SearchesRows, K: Clock + Copy>(
     held: &mut Held,
-    course: &Course,
+    course: &Course<K>,
     start: u64,
     space: &mut PolishSpace<T>,
     meter: &mut Meter,
@@ -119,15 +122,16 @@ pub fn polish_found<W: Write, T: SearchesRows>(
     let mut sent = log_start(log, 0, held.case(), start)?;
     let mut settled = descend_first(held, course.from, space, meter);
     let mut kicking = begin(held, course, space, meter);
-    let all = kicking.searches.left;
+    let all = kicking.searches.remaining();
     if try_fade(held, course.from, &mut kicking, space, meter) {
         settled = true;
         held.keeps_rules();
         sent = log_word(log, sent, b"fade", held.total())?;
     }
-    kicking.turns = Turns::after_fade(all, kicking.searches.left);
+    kicking.turns = Turns::after_fade(all, kicking.searches.remaining());
     for kicks_before in 0..course.searches {
-        if kicking.searches.left == 0 {
+        let left = kicking.searches.remaining();
+        if !kicking.turns.go_on(left) {
             break;
         }
         let before = held.total();
@@ -150,10 +154,10 @@ pub fn polish_found<W: Write, T: SearchesRows>(
 /// Tries one change: a kick if kicks alone are asked for, and else another fade or a search in a
 /// neighbourhood, whichever is next. If the roster is then settled and no dearer, it stays and is kept; else
 /// the kept one comes back. Returns whether it stayed.
-fn try_change<T: SearchesRows>(
+fn try_change<T: SearchesRows, K: Clock + Copy>(
     held: &mut Held,
-    course: &Course,
-    kicking: &mut Kicking,
+    course: &Course<K>,
+    kicking: &mut Kicking<K>,
     space: &mut PolishSpace<T>,
     meter: &mut Meter,
 ) -> bool
@@ -162,20 +166,22 @@ fn try_change<T: SearchesRows>(
     ensures tried { StaysNoDearer held.old.case course.now.from held.old.roster held.new
         kicking.old.searches kicking.new.searches space.new meter.old meter.new result }
     ensures kicked { course.now.kicks_alone ≡ true → KickStays held.old.case course.now.from
-        kicking.new.searches.left held.old.roster held.new.roster result }
+        kicking.new.searches held.old.roster held.new.roster result }
 {
     if course.kicks_alone {
         return try_kick(held, course.from, kicking, space, meter);
     }
-    let before = held.total();
-    let stayed = if kicking.turns.fades_next(kicking.searches.left) {
+    let total = held.total();
+    let before = kicking.searches.remaining();
+    let fades = kicking.turns.fades_next(before);
+    let stayed = if fades {
         try_again(held, course.from, kicking, space, meter)
     } else {
         try_near(held, course.from, &mut kicking.searches, space, meter)
     };
-    kicking
-        .turns
-        .record(kicking.searches.left, held.total() < before);
+    let after = kicking.searches.remaining();
+    let cheaper = held.total() < total;
+    kicking.turns.record(before, after, fades, cheaper);
     stayed
 }
 
@@ -187,12 +193,12 @@ fn end_word(settled: bool) -> &'static [u8]
 }
 
 /// Sets the dual prices from which a fade begins and by which kicks price, and keeps the roster.
-fn begin<T: SearchesRows>(
+fn begin<T: SearchesRows, K: Clock + Copy>(
     held: &Held,
-    course: &Course,
+    course: &Course<K>,
     space: &mut PolishSpace<T>,
     meter: &mut Meter,
-) -> Kicking
+) -> Kicking<K>
     requires fits { FitsPolish held.now.case space.old }
     requires room { meter.old + extensions_of held.now.case course.now.searches ≤ greatest_u64 }
     ensures kept { space.new.kept ≡ held.now.roster }
@@ -202,66 +208,52 @@ fn begin<T: SearchesRows>(
     ensures fits { FitsPolish held.now.case space.new }
 {
     held.case().keeps_limits();
-    let nurses = held.case().nurses() as u32;
-    let rounds = set_first_prices(held, course, space, meter);
+    let mut searches = Searches {
+        left: course.searches as u64,
+        deadline: course.deadline,
+    };
+    set_first_prices(held, course, &mut searches, space, meter);
     space.near.begin_run(held.case(), course.seed);
     space.keep(held);
-    let left = course.searches - rounds * nurses;
-    let passes = passes_within(course, left, nurses);
+    let passes = passes_within(course, searches.left, held.case().nurses() as u32);
     Kicking {
-        searches: Searches { left: left as u64 },
+        searches,
         random: Random::of_seed(course.seed),
         passes: passes.all,
         passes_per_search: passes.per_search,
+        fade_micros: (searches.time_left() / 2).min(MOST_MICROS),
         turns: Turns::default(),
     }
 }
 
 /// Sets these prices: those that a search for a first roster has left stay, and else they are improved.
-/// Returns for how many rounds they were.
-fn set_first_prices<T: SearchesRows>(
+fn set_first_prices<T: SearchesRows, K: Clock + Copy>(
     held: &Held,
-    course: &Course,
+    course: &Course<K>,
+    searches: &mut Searches<K>,
     space: &mut PolishSpace<T>,
     meter: &mut Meter,
-) -> u32
+)
     requires fits { FitsPolish held.now.case space.old }
-    requires room { meter.old + extensions_of held.now.case course.now.searches ≤ greatest_u64 }
-    ensures within { result * nurse_count held.now.case ≤ course.now.searches }
-    ensures counted { meter.new ≤ meter.old + extensions_in held.now.case result }
+    requires all { searches.old.left ≡ course.now.searches }
+    requires room { meter.old + extensions_of held.now.case searches.old.left ≤ greatest_u64 }
+    ensures spends { Spends held.now.case meter.old searches.old.left meter.new searches.new.left }
     ensures fits { FitsPolish held.now.case space.new }
 {
-    if !space.has_prices {
-        return improve_first_prices(held, course, space, meter);
+    if space.has_prices {
+        space.has_prices = false;
+        space.restore_prices(held.case());
+        return;
     }
-    space.has_prices = false;
-    space.restore_prices(held.case());
-    0
-}
-
-/// Improves these prices. Returns for how many rounds.
-fn improve_first_prices<T: SearchesRows>(
-    held: &Held,
-    course: &Course,
-    space: &mut PolishSpace<T>,
-    meter: &mut Meter,
-) -> u32
-    requires fits { FitsPolish held.now.case space.old }
-    requires room { meter.old + extensions_of held.now.case course.now.searches ≤ greatest_u64 }
-    ensures within { result * nurse_count held.now.case ≤ course.now.searches }
-    ensures counted { meter.new ≤ meter.old + extensions_in held.now.case result }
-    ensures fits { FitsPolish held.now.case space.new }
-{
     held.case().keeps_limits();
     let rounds = rounds_for(course, held.case().nurses() as u32);
     let base = Base::of(held, course.from);
-    space.improve_prices(&base, rounds as u16, Some(held.total()), meter);
-    rounds
+    space.improve_prices(&base, rounds as u16, Some(held.total()), searches, meter);
 }
 
 /// For how many rounds dual prices are improved before a fade, with at most a quarter of the searches, or
 /// before kicks alone, with at most half of them.
-fn rounds_for(course: &Course, nurses: u32) -> u32
+fn rounds_for<K>(course: &Course<K>, nurses: u32) -> u32
     requires nurses { nurses ≤ most_nurses }
     ensures few { result ≤ 100 }
     ensures within { result * nurses ≤ course.now.searches }
@@ -299,28 +291,32 @@ struct Passes {
     per_search: u64,
 }
 
-/// The passes of a fade: none for kicks alone. With few searches for each nurse, fewer passes for each of
-/// them are better.
-fn passes_within(course: &Course, left: u32, nurses: u32) -> Passes
+/// The passes of a fade: none for kicks alone. It makes four for each search of a nurse, or eight if it has
+/// many searches for each nurse though few are left in all.
+fn passes_within<K>(course: &Course<K>, left: u64, nurses: u32) -> Passes
     requires some { 0 < nurses }
     requires few { nurses ≤ most_nurses }
     ensures none { course.now.kicks_alone ≡ true → result.all ≡ 0 }
 {
     let each = searches_each(course, left, nurses);
-    let per_search = if each >= SEARCHES_FOR_MORE { 8 } else { 4 };
+    let is_short = each >= SEARCHES_FOR_MORE && left < FEW_SEARCHES;
+    let per_search = if is_short { 8 } else { 4 };
     Passes {
         all: per_search * each as u64,
         per_search,
     }
 }
 
-/// From this many searches for each nurse on a fade makes eight passes for each of them.
+/// From this many searches for each nurse on they are many.
 const SEARCHES_FOR_MORE: u32 = 200;
+
+/// Fewer searches than these are few in all.
+const FEW_SEARCHES: u64 = 30_000;
 
 /// How many searches for each nurse a fade takes: none for kicks alone, and else as many as are left, up to
 /// the most. It leaves three in a hundred of all searches, or four for each nurse if that is more, for passes
 /// that it makes more if it ends below a minimum.
-fn searches_each(course: &Course, left: u32, nurses: u32) -> u32
+fn searches_each<K>(course: &Course<K>, left: u64, nurses: u32) -> u32
     requires some { 0 < nurses }
     requires few { nurses ≤ most_nurses }
     ensures none { course.now.kicks_alone ≡ true → result ≡ 0 }
@@ -328,15 +324,18 @@ fn searches_each(course: &Course, left: u32, nurses: u32) -> u32
     if course.kicks_alone {
         return 0;
     }
-    let spare = (course.searches / 100 * 3).max(4 * nurses);
-    (left.saturating_sub(spare) / nurses).min(most_each(nurses))
+    let spare = (course.searches / 100 * 3).max(4 * nurses) as u64;
+    let each = left.saturating_sub(spare) / nurses as u64;
+    each.min(most_each(left, nurses) as u64) as u32
 }
 
-/// How many searches for each nurse a fade takes at most: 400, or 20,000 for all nurses if that is less, but
-/// not fewer than there are nurses, or 250 if there are more. Then fades from other random numbers, and
+/// How many searches for each nurse a fade takes at most: 400, or half of those that are left for all nurses
+/// if that is less. This half counts as 20,000 if it is less, and as 40,000 if it is more; and each nurse can
+/// have as many as there are nurses, or 250 if there are more. Then fades from other random numbers, and
 /// neighbourhoods, help more than a longer fade.
-fn most_each(nurses: u32) -> u32
+fn most_each(left: u64, nurses: u32) -> u32
     requires { 0 < nurses }
 {
-    (20_000 / nurses).max(nurses.min(250)).min(400)
+    let all = (left / 2).clamp(20_000, 40_000) as u32;
+    (all / nurses).max(nurses.min(250)).min(400)
 }

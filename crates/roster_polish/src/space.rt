@@ -4,10 +4,12 @@ ghost use Rattle.std.specs.Prelude.{◌≡◌, ◌+◌, ◌*◌, ◌<◌, ◌≤
 ghost use Rattle.roster_bundle.specs.Limits.{greatest_u64};
 ghost use Rattle.roster_instance.specs.Meaning.{day_count, nurse_count};
 ghost use Rattle.roster_instance.specs.Rosters.{fits_case};
-ghost use Rattle.roster_laws.specs.Greatest.{extensions_in};
 ghost use Rattle.roster_row.specs.Recalled.{RecallsSearchesAt};
+ghost use Rattle.roster_polish.specs.Fades.{AreMade};
 ghost use Rattle.roster_polish.specs.Polished.{FitsPolish};
+ghost use Rattle.roster_polish.specs.Settled.{Spends, extensions_of};
 
+use crate::searches::Searches;
 use roster_case::Held;
 use roster_instance::{Case, Roster};
 use roster_near::NearSpace;
@@ -17,6 +19,7 @@ use roster_row::LastSearches;
 use roster_slots::DualPrices;
 use roster_state::Meter;
 use std::alloc::Global;
+use std::time::Clock;
 
 /// What a run writes into: what a run that raises a bound does, with the workspace of its searches; the last
 /// searches; by how much each shift of a day is dearer in a kick; the rows of the kept roster, with its last
@@ -118,23 +121,38 @@ impl<T: SearchesRows> PolishSpace<T> {
         self.kept_last.put(&self.last);
     }
 
-    /// Improves dual prices for some rounds over all nurses, as `improve_dual_prices` does, and lets fades
-    /// begin with them.
-    pub(crate) fn improve_prices(
+    /// Improves dual prices for at most this many rounds over all nurses, and within a quarter of the time
+    /// that is left, and lets fades begin with them. Their searches are among those that are left.
+    pub(crate) fn improve_prices<K: Clock + Copy>(
         &mut self,
         base: &Base<'_>,
         rounds: u16,
         penalty: Option<u64>,
+        searches: &mut Searches<K>,
         meter: &mut Meter,
     )
         requires fits { FitsPolish base.now.case.now self.old }
-        requires room { meter.old + extensions_in base.now.case.now rounds ≤ greatest_u64 }
-        ensures made { meter.old + rounds * (nurse_count base.now.case.now
-            * day_count base.now.case.now) ≤ meter.new }
-        ensures counted { meter.new ≤ meter.old + extensions_in base.now.case.now rounds }
+        requires within { rounds * nurse_count base.now.case.now ≤ searches.old.left }
+        requires room { meter.old + extensions_of base.now.case.now searches.old.left
+            ≤ greatest_u64 }
+        ensures made { AreMade base.now.case.now meter.old searches.old.left meter.new
+            searches.new.left }
+        ensures spends { Spends base.now.case.now meter.old searches.old.left meter.new
+            searches.new.left }
+        ensures ends { searches.new.deadline.ends ≡ searches.old.deadline.ends }
         ensures fits { FitsPolish base.now.case.now self.new }
     {
-        improve_dual_prices(base, rounds, penalty, &mut self.bounds, meter);
+        base.case.keeps_limits();
+        let nurses = base.case.nurses() as u64;
+        let rest = searches.time_left() / 4 * 3;
+        self.bounds.begin(base.case);
+        for made in 0..rounds {
+            if searches.time_left() <= rest {
+                break;
+            }
+            improve_dual_prices(base, made, penalty, &mut self.bounds, meter);
+            searches.left -= nurses;
+        }
         self.first_prices.copy(&self.bounds.dual_prices);
     }
 

@@ -13,13 +13,14 @@ use crate::space::PolishSpace;
 use roster_case::Held;
 use roster_offers::SearchesRows;
 use roster_state::Meter;
+use std::time::Clock;
 
 /// Runs a descent on a changed roster, to the penalty of the kept one. If the roster is then settled and no
 /// dearer, it stays and is kept; else the kept one comes back. Returns whether it stayed.
-pub(crate) fn stay_if_no_dearer<T: SearchesRows>(
+pub(crate) fn stay_if_no_dearer<T: SearchesRows, K: Clock + Copy>(
     held: &mut Held,
     aim: Aim,
-    searches: &mut Searches,
+    searches: &mut Searches<K>,
     space: &mut PolishSpace<T>,
     meter: &mut Meter,
 ) -> bool
@@ -29,7 +30,7 @@ pub(crate) fn stay_if_no_dearer<T: SearchesRows>(
     requires frozen { FrozenDaysStay held.old.case aim.from space.old.kept held.old.roster }
     ensures tried { StaysNoDearer held.old.case aim.from space.old.kept held.new searches.old
         searches.new space.new meter.old meter.new result }
-    ensures decided { StaysIfNoDearer held.old.case aim.from aim.penalty searches.new.left
+    ensures decided { StaysIfNoDearer held.old.case aim.from aim.penalty searches.new
         held.old.roster held.new.roster result }
     ensures faded { space.new.faded ≡ space.old.faded }
     ensures best { space.new.best ≡ space.old.best }

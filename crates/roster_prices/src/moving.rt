@@ -2,8 +2,8 @@
 
 ghost use Rattle.std.specs.Prelude.{◌+◌, ◌*◌, ◌≤◌};
 ghost use Rattle.roster_bundle.specs.Limits.{greatest_u64};
-ghost use Rattle.roster_instance.specs.Meaning.{day_count, nurse_count};
-ghost use Rattle.roster_laws.specs.Greatest.{extensions_in, greatest_extension_count};
+ghost use Rattle.roster_instance.specs.Meaning.{nurse_count};
+ghost use Rattle.roster_laws.specs.Greatest.{greatest_extension_count};
 ghost use Rattle.roster_prices.specs.Workspaces.{CountsRound, FitsBound};
 
 use crate::bounds::row_bounds;
@@ -16,29 +16,24 @@ use roster_offers::SearchesRows;
 use roster_slots::target_cap;
 use roster_state::Meter;
 
-/// Improves the dual prices of a workspace as raising a bound does, but gives no bound. They move towards the
-/// penalty of a roster, if it is given. It makes a search for each nurse in each round, and each search
-/// counts at least one extension for each day. It takes no memory.
+/// Improves the dual prices of a workspace by one round as raising a bound does, after `made` others, but
+/// gives no bound. They move towards the penalty of a roster, if it is given. The round makes a search for
+/// each nurse, and each search counts at least one extension for each day. It takes no memory.
 pub fn improve_dual_prices<T: SearchesRows>(
     base: &Base<'_>,
-    rounds: u16,
+    made: u16,
     penalty: Option<u64>,
     workspace: &mut BoundWorkspace<T>,
     meter: &mut Meter,
 )
     requires fits { FitsBound base.now.case.now workspace.old }
-    requires room { meter.old + extensions_in base.now.case.now rounds ≤ greatest_u64 }
-    ensures made { meter.old + rounds * (nurse_count base.now.case.now
-        * day_count base.now.case.now) ≤ meter.new }
-    ensures counted { meter.new ≤ meter.old + extensions_in base.now.case.now rounds }
+    requires room { meter.old + nurse_count base.now.case.now * greatest_extension_count
+        base.now.case.now ≤ greatest_u64 }
+    ensures counted { CountsRound base.now.case.now meter.old meter.new }
     ensures fits { FitsBound base.now.case.now workspace.new }
 {
-    base.case.keeps_limits();
-    workspace.begin(base.case);
-    for rounds_before in 0..rounds {
-        search_rows(base, workspace, meter);
-        prepare_next(base.case, rounds_before, penalty, workspace);
-    }
+    search_rows(base, workspace, meter);
+    prepare_next(base.case, made, penalty, workspace);
 }
 
 /// Searches each nurse's cheapest row by the dual prices. The cover counts it, and the pool keeps it.

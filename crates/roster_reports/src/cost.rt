@@ -10,7 +10,8 @@ use roster_rules::Costs;
 use roster_text::{Piece, Watch, WriteFault, write_pieces};
 use std::io::Write;
 
-/// Writes a line for each soft rule, and one for the total.
+/// Writes a line for each soft rule but S9, and one for the total. No roster costs anything by S9 unless one
+/// is kept; if one is, these points are in the total alone.
 pub fn write_costs<W: Write>(output: &mut Watch<W>, costs: Costs) -> Result<(), WriteFault>
     requires { total_cost costs < penalty_limit }
     ensures ok { OnOk result (Writes W.contents output.old output.new (costs_text costs)) }

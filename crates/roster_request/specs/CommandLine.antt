@@ -14,7 +14,7 @@ use Rattle.roster_request.specs.declared.request.Command.TheVariants as command
 use Rattle.roster_request.specs.declared.request.CliFault.{CliFault}
 use Rattle.roster_request.specs.declared.request.CliFault.TheVariants as fault
 use Rattle.roster_request.specs.declared.request.Request.{Request}
-use Rattle.roster_request.specs.Limits.{most_from, most_keep, most_nodes, most_rounds, most_searches, most_seed}
+use Rattle.roster_request.specs.Limits.{most_from, most_keep, most_nodes, most_rounds, most_searches, most_seconds, most_seed}
 
 -- any number of files
 abbrev pub files_rule : Rule
@@ -57,6 +57,11 @@ number_rule name most default = record (value_rule name) {
   defaults = default ∷ [];
 }
 
+-- a number from the least to the greatest that may be left out
+abbrev pub optional_rule : Text → ℕ → ℕ → Rule
+optional_rule name least most =
+    record (value_rule name) { parser = Some (parser.Signed (pos least) (pos most)) }
+
 -- how many rounds a run may make
 abbrev pub rounds_rule : Rule
 rounds_rule = number_rule (codes "rounds") most_rounds (codes "100")
@@ -67,8 +72,11 @@ nodes_rule = number_rule (codes "nodes") most_nodes (codes "0")
 
 -- how many searches a run may make; it may be left out
 abbrev pub searches_rule : Rule
-searches_rule =
-    record (value_rule (codes "searches")) { parser = Some (parser.Signed (pos 0) (pos most_searches)) }
+searches_rule = optional_rule (codes "searches") 0 most_searches
+
+-- after how many seconds a run ends at the latest; they may be left out
+abbrev pub seconds_rule : Rule
+seconds_rule = optional_rule (codes "seconds") 1 most_seconds
 
 -- the seed of its random numbers
 abbrev pub seed_rule : Rule
@@ -94,13 +102,15 @@ command_of name = with_rule (new_app name) files_rule
 abbrev pub own_command_of : List Rule → Text → App
 own_command_of rules name = with_rule (fold with_rule (new_app name) rules) files_rule
 
--- a command with a number of searches and a seed, before its other arguments
+-- a command with a number of searches, with seconds and a seed, before its other arguments
 abbrev pub searching : Text → App
-searching name = with_rule (with_rule (new_app name) searches_rule) seed_rule
+searching name = with_rule (with_rule (with_rule (new_app name) searches_rule) seconds_rule) seed_rule
 
 -- the command `plan`
 abbrev pub plan : App
-plan = own_command_of (searches_rule ∷ seed_rule ∷ from_rule ∷ keep_rule ∷ []) (codes "plan")
+plan =
+    own_command_of (searches_rule ∷ seconds_rule ∷ seed_rule ∷ from_rule ∷ keep_rule ∷ [])
+    (codes "plan")
 
 -- the command `who`
 abbrev pub who : App
@@ -121,8 +131,10 @@ commands =
     (command_of (codes "show")).top ∷ (command_of (codes "cost")).top ∷ (command_of (codes "sizes")).top
     ∷ (own_command_of (nurse_rule ∷ from_rule ∷ keep_rule ∷ []) (codes "best")).top
     ∷ (own_command_of (rounds_rule ∷ from_rule ∷ keep_rule ∷ []) (codes "improve")).top
-    ∷ (own_command_of (rounds_rule ∷ nodes_rule ∷ from_rule ∷ keep_rule ∷ []) (codes "bound")).top
-    ∷ (own_command_of (searches_rule ∷ seed_rule ∷ kicks_rule ∷ from_rule ∷ keep_rule ∷ [])
+    ∷ (own_command_of (rounds_rule ∷ nodes_rule ∷ seconds_rule ∷ from_rule ∷ keep_rule ∷ [])
+    (codes "bound")).top
+    ∷ (own_command_of
+    (searches_rule ∷ seconds_rule ∷ seed_rule ∷ kicks_rule ∷ from_rule ∷ keep_rule ∷ [])
     (codes "polish")).top
     ∷ plan.top ∷ who.top ∷ []
 
@@ -137,9 +149,9 @@ name_of command.Cost = codes "cost"
 name_of command.Sizes = codes "sizes"
 name_of (command.Best nurse from keep) = codes "best"
 name_of (command.Improve rounds from keep) = codes "improve"
-name_of (command.Bound rounds nodes from keep) = codes "bound"
-name_of (command.Polish searches seed from alone keep) = codes "polish"
-name_of (command.Plan searches seed from keep) = codes "plan"
+name_of (command.Bound rounds nodes seconds from keep) = codes "bound"
+name_of (command.Polish searches seconds seed from alone keep) = codes "polish"
+name_of (command.Plan searches seconds seed from keep) = codes "plan"
 name_of (command.Who day shift skill from) = codes "who"
 
 -- one of these commands has this name
@@ -151,30 +163,37 @@ IsNameOf (first ∷ rest) name = (name ≡ first.name) ⊎ IsNameOf rest name
 abbrev pub IsGiven : Text → List Row → Type 0
 IsGiven name rows = is_some (first_of name rows) ≡ true
 
--- the text that clap has for an argument of this name, as it was given and as it is read, is a number from 0
--- to the greatest
-pub record HasNumber (name : Text) (most : ℕ) (rows : List Row) : Type 0 where
+-- the text that clap has for an argument of this name, as it was given and as it is read, is a number from
+-- the least to the greatest
+pub record HasNumber (name : Text) (least most : ℕ) (rows : List Row) : Type 0 where
   pub text : Text
   pub read : one_of name rows ≡ Some (without_minus text)
-  pub within : IsSignedIn (pos 0) (pos most) text
+  pub within : IsSignedIn (pos least) (pos most) text
+
+-- clap has no text for the argument, or such a number
+abbrev pub HasNumberIfGiven : Text → ℕ → ℕ → List Row → Type 0
+HasNumberIfGiven name least most rows = (one_of name rows ≡ None) ⊎ HasNumber name least most rows
 
 abbrev pub HasRounds : List Row → Type 0
-HasRounds rows = HasNumber (codes "rounds") most_rounds rows
+HasRounds rows = HasNumber (codes "rounds") 0 most_rounds rows
 
 abbrev pub HasNodes : List Row → Type 0
-HasNodes rows = HasNumber (codes "nodes") most_nodes rows
+HasNodes rows = HasNumber (codes "nodes") 0 most_nodes rows
 
 abbrev pub HasSearches : List Row → Type 0
-HasSearches rows = (one_of (codes "searches") rows ≡ None) ⊎ HasNumber (codes "searches") most_searches rows
+HasSearches rows = HasNumberIfGiven (codes "searches") 0 most_searches rows
+
+abbrev pub HasSeconds : List Row → Type 0
+HasSeconds rows = HasNumberIfGiven (codes "seconds") 1 most_seconds rows
 
 abbrev pub HasSeed : List Row → Type 0
-HasSeed rows = HasNumber (codes "seed") most_seed rows
+HasSeed rows = HasNumber (codes "seed") 0 most_seed rows
 
 abbrev pub HasFrom : List Row → Type 0
-HasFrom rows = HasNumber (codes "from") most_from rows
+HasFrom rows = HasNumber (codes "from") 0 most_from rows
 
 abbrev pub HasKeep : List Row → Type 0
-HasKeep rows = HasNumber (codes "keep") most_keep rows
+HasKeep rows = HasNumber (codes "keep") 0 most_keep rows
 
 -- it is one of these names
 abbrev pub IsOneOf : List Text → Text → Type 0
@@ -199,6 +218,10 @@ with_nodes = codes "bound" ∷ []
 
 abbrev pub with_searches : List Text
 with_searches = codes "polish" ∷ codes "plan" ∷ []
+
+-- the commands that may have seconds
+abbrev pub with_seconds : List Text
+with_seconds = codes "bound" ∷ with_searches
 
 abbrev pub with_keep : List Text
 with_keep = codes "best" ∷ codes "polish" ∷ codes "plan" ∷ with_rounds
@@ -243,33 +266,43 @@ HasArguments (command.Best nurse from keep) rows =
 HasArguments (command.Improve rounds from keep) rows =
     IsNumberOf (codes "rounds") rounds rows × IsNumberOf (codes "from") from rows
     × IsNumberOf (codes "keep") keep rows
-HasArguments (command.Bound rounds nodes from keep) rows =
+HasArguments (command.Bound rounds nodes seconds from keep) rows =
     IsNumberOf (codes "rounds") rounds rows × IsNumberOf (codes "nodes") nodes rows
+    × IsNumberIfGiven (codes "seconds") seconds rows
     × IsNumberOf (codes "from") from rows × IsNumberOf (codes "keep") keep rows
-HasArguments (command.Polish searches seed from alone keep) rows =
-    IsNumberIfGiven (codes "searches") searches rows × IsNumberOf (codes "seed") seed rows × IsNumberOf
-    (codes "from") from rows × IsFlag (codes "kicks") alone rows × IsNumberOf (codes "keep") keep rows
-HasArguments (command.Plan searches seed from keep) rows =
-    IsNumberIfGiven (codes "searches") searches rows × IsNumberOf (codes "seed") seed rows
-    × IsNumberOf (codes "from") from rows × IsNumberOf (codes "keep") keep rows
+HasArguments (command.Polish searches seconds seed from alone keep) rows =
+    IsNumberIfGiven (codes "searches") searches rows × IsNumberIfGiven (codes "seconds") seconds rows
+    × IsNumberOf (codes "seed") seed rows × IsNumberOf (codes "from") from rows
+    × IsFlag (codes "kicks") alone rows × IsNumberOf (codes "keep") keep rows
+HasArguments (command.Plan searches seconds seed from keep) rows =
+    IsNumberIfGiven (codes "searches") searches rows × IsNumberIfGiven (codes "seconds") seconds rows
+    × IsNumberOf (codes "seed") seed rows × IsNumberOf (codes "from") from rows
+    × IsNumberOf (codes "keep") keep rows
 HasArguments (command.Who day shift skill from) rows =
     (first_of (codes "day") rows ≡ Some (string_bytes day))
     × (first_of (codes "shift") rows ≡ Some (string_bytes shift)) ×
     (first_of (codes "skill") rows ≡ option_map string_bytes skill) × IsNumberOf (codes "from") from rows
 HasArguments _ rows = Unit {0}
 
--- the rounds, branchings or searches of a command that has some are within their limit, and so are its first
--- week and its points
+-- seconds that a run may be given
+abbrev pub AreSeconds : ℕ → Type 0
+AreSeconds seconds = (1 ≤ seconds) × (seconds ≤ most_seconds)
+
+-- the rounds, branchings, searches or seconds of a command that has some are within their limits, and so are
+-- its first week and its points
 abbrev pub IsInRange : Command → Type 0
 IsInRange (command.Best nurse from keep) = (from ≤ most_from) × (keep ≤ most_keep)
 IsInRange (command.Improve rounds from keep) =
     (rounds ≤ most_rounds) × (from ≤ most_from) × (keep ≤ most_keep)
-IsInRange (command.Bound rounds nodes from keep) =
-    (rounds ≤ most_rounds) × (nodes ≤ most_nodes) × (from ≤ most_from) × (keep ≤ most_keep)
-IsInRange (command.Polish searches seed from alone keep) =
-    IfSome searches (λ n. n ≤ most_searches) × (from ≤ most_from) × (keep ≤ most_keep)
-IsInRange (command.Plan searches seed from keep) =
-    IfSome searches (λ n. n ≤ most_searches) × (from ≤ most_from) × (keep ≤ most_keep)
+IsInRange (command.Bound rounds nodes seconds from keep) =
+    (rounds ≤ most_rounds) × (nodes ≤ most_nodes) × IfSome seconds AreSeconds
+    × (from ≤ most_from) × (keep ≤ most_keep)
+IsInRange (command.Polish searches seconds seed from alone keep) =
+    IfSome searches (λ n. n ≤ most_searches) × IfSome seconds AreSeconds
+    × (from ≤ most_from) × (keep ≤ most_keep)
+IsInRange (command.Plan searches seconds seed from keep) =
+    IfSome searches (λ n. n ≤ most_searches) × IfSome seconds AreSeconds
+    × (from ≤ most_from) × (keep ≤ most_keep)
 IsInRange (command.Who day shift skill from) = from ≤ most_from
 IsInRange _ = Unit {0}
 

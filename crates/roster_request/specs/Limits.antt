@@ -13,6 +13,10 @@ most_nodes = 10000
 abbrev pub most_searches : ℕ
 most_searches = 10000000
 
+-- the most seconds that a run may be given: a day
+abbrev pub most_seconds : ℕ
+most_seconds = 86400
+
 -- the greatest seed: one of 32 bits
 abbrev pub most_seed : ℕ
 most_seed = 4294967295

@@ -3,13 +3,13 @@
 ghost use Rattle.std.specs.Prelude.{◌≡◌, [], ◌∷◌, codes, drop, IfOk, IsOkAnd, false, true};
 ghost use Rattle.std.specs.List.{fold};
 ghost use Rattle.clap.specs.Words.{app_of, new_app, rule_of, with_rule, with_subcommand};
-ghost use Rattle.roster_request.specs.CommandLine.{bare, command_of, commands, files_rule, from_rule, given_rule, keep_rule, kicks_rule, nodes_rule, number_rule, own_command_of, nurse_rule, plan, program, rounds_rule, searches_rule, searching, seed_rule, skill_rule, value_rule, who};
+ghost use Rattle.roster_request.specs.CommandLine.{bare, command_of, commands, files_rule, from_rule, given_rule, keep_rule, kicks_rule, nodes_rule, number_rule, optional_rule, own_command_of, nurse_rule, plan, program, rounds_rule, searches_rule, searching, seconds_rule, seed_rule, skill_rule, value_rule, who};
 
 use crate::texts::{
     ABOUT, BEST, BEST_HELP, BOUND, BOUND_HELP, COST, COST_HELP, EXAMPLES, FIRST_WEEK, IMPROVE,
     IMPROVE_HELP, KEPT_POINTS, KICKS_ALONE, NODE_COUNT, NURSE_NAME, PLAN, PLAN_HELP, POLISH,
-    POLISH_HELP, ROUND_COUNT, SEARCH_COUNT, SEED_NUMBER, SHIFT_NAME, SHOW, SHOW_HELP, SIZES,
-    SIZES_HELP, SKILL_NAME, TEXTS, WEEK_AND_DAY, WHO, WHO_HELP,
+    POLISH_HELP, ROUND_COUNT, SEARCH_COUNT, SECOND_COUNT, SEED_NUMBER, SHIFT_NAME, SHOW, SHOW_HELP,
+    SIZES, SIZES_HELP, SKILL_NAME, TEXTS, WEEK_AND_DAY, WHO, WHO_HELP,
 };
 use clap::builder::ValueParser;
 use clap::{Arg, ArgAction, Command};
@@ -60,10 +60,34 @@ pub(crate) const NODES: NumberOption = NumberOption {
     help: NODE_COUNT,
 };
 
-/// The name of the option for a number of searches, and the greatest number.
-pub(crate) const SEARCHES: &str = "searches";
+/// A number that a command may be given by the option `name`, from `least` to `most`. It has no default. The
+/// help calls it `value`, and says `help` about it.
+#[derive(Clone, Copy)]
+pub(crate) struct OptionalNumber {
+    pub(crate) name: &'static str,
+    pub(crate) value: &'static str,
+    pub(crate) least: u32,
+    pub(crate) most: u32,
+    pub(crate) help: &'static str,
+}
 
-const MOST_SEARCHES: i64 = 10_000_000;
+/// How many searches a run may make. If they are left out, their number depends on the case.
+pub(crate) const SEARCHES: OptionalNumber = OptionalNumber {
+    name: "searches",
+    value: "N",
+    least: 0,
+    most: 10_000_000,
+    help: SEARCH_COUNT,
+};
+
+/// After how many seconds a run ends at the latest.
+pub(crate) const SECONDS: OptionalNumber = OptionalNumber {
+    name: "seconds",
+    value: "S",
+    least: 1,
+    most: 86_400,
+    help: SECOND_COUNT,
+};
 
 /// The seed of a run's random numbers.
 pub(crate) const SEED: NumberOption = NumberOption {
@@ -196,17 +220,19 @@ fn improve_command<'a>(alloc: Global) -> Made<'a>
 /// The command `bound`.
 fn bound_command<'a>(alloc: Global) -> Made<'a>
     ensures { IfOk result (λ c. app_of c ≡ own_command_of
-        (rounds_rule ∷ nodes_rule ∷ from_rule ∷ keep_rule ∷ []) (codes "bound")) }
+        (rounds_rule ∷ nodes_rule ∷ seconds_rule ∷ from_rule ∷ keep_rule ∷ []) (codes "bound")) }
 {
     let command = Ok(command(alloc, "bound", BOUND, BOUND_HELP));
     let with_rounds = with_number(alloc, command, ROUNDS);
-    with_weeks(alloc, with_number(alloc, with_rounds, NODES))
+    let with_nodes = with_number(alloc, with_rounds, NODES);
+    with_weeks(alloc, with_optional(alloc, with_nodes, SECONDS))
 }
 
 /// The command `polish`.
 fn polish_command<'a>(alloc: Global) -> Made<'a>
     ensures { IfOk result (λ c. app_of c ≡ own_command_of
-        (searches_rule ∷ seed_rule ∷ kicks_rule ∷ from_rule ∷ keep_rule ∷ []) (codes "polish")) }
+        (searches_rule ∷ seconds_rule ∷ seed_rule ∷ kicks_rule ∷ from_rule ∷ keep_rule ∷ [])
+        (codes "polish")) }
 {
     let searching = searching_command(alloc, "polish", POLISH, POLISH_HELP);
     with_weeks(alloc, with_kicks(alloc, searching))
@@ -220,13 +246,14 @@ fn plan_command<'a>(alloc: Global) -> Made<'a>
     with_weeks(alloc, searching)
 }
 
-/// A command with a number of searches and a seed, before its other arguments.
+/// A command with a number of searches, with seconds and a seed, before its other arguments.
 fn searching_command<'a>(alloc: Global, name: &'a str, about: &'a str, help: &'a str) -> Made<'a>
     ensures { IfOk result (λ c. app_of c ≡ searching name.now) }
 {
     let command = Ok(command(alloc, name, about, help));
-    let with_searches = with_searches(alloc, command);
-    with_number(alloc, with_searches, SEED)
+    let with_searches = with_optional(alloc, command, SEARCHES);
+    let with_seconds = with_optional(alloc, with_searches, SECONDS);
+    with_number(alloc, with_seconds, SEED)
 }
 
 /// A command before its arguments are added, with its help texts.
@@ -269,7 +296,7 @@ fn with_skill<'a>(alloc: Global, command: Made<'a>) -> Made<'a>
     command?.arg(skill_arg(alloc))
 }
 
-/// A command with one more number that may be left out.
+/// A command with one more number that has a default.
 fn with_number<'a>(alloc: Global, command: Made<'a>, option: NumberOption) -> Made<'a>
     ensures { IfOk result (λ c. IsOkAnd command.entry
         (λ before. app_of c ≡ with_rule (app_of before)
@@ -278,12 +305,13 @@ fn with_number<'a>(alloc: Global, command: Made<'a>, option: NumberOption) -> Ma
     command?.arg(number_arg(alloc, option))
 }
 
-/// A command that may be given a number of searches.
-fn with_searches<'a>(alloc: Global, command: Made<'a>) -> Made<'a>
+/// A command with one more number that may be left out.
+fn with_optional<'a>(alloc: Global, command: Made<'a>, option: OptionalNumber) -> Made<'a>
     ensures { IfOk result (λ c. IsOkAnd command.entry
-        (λ before. app_of c ≡ with_rule (app_of before) searches_rule)) }
+        (λ before. app_of c ≡ with_rule (app_of before)
+        (optional_rule option.name.now option.least option.most))) }
 {
-    command?.arg(searches_arg(alloc))
+    command?.arg(optional_arg(alloc, option))
 }
 
 /// A command that may be asked for kicks only.
@@ -342,17 +370,17 @@ fn kicks_arg<'a>(alloc: Global) -> Arg<'a>
         .help(KICKS_ALONE)
 }
 
-/// A number of searches. If it is left out, the number depends on the case.
-fn searches_arg<'a>(alloc: Global) -> Arg<'a>
-    ensures rule { rule_of result ≡ searches_rule }
+/// A number that may be left out.
+fn optional_arg<'a>(alloc: Global, option: OptionalNumber) -> Arg<'a>
+    ensures rule { rule_of result ≡ optional_rule option.name.now option.least option.most }
     ensures local { result.global ≡ false }
 {
-    value_arg(alloc, SEARCHES, "N")
-        .value_parser(ValueParser::Signed(0, MOST_SEARCHES))
-        .help(SEARCH_COUNT)
+    value_arg(alloc, option.name, option.value)
+        .value_parser(ValueParser::Signed(i64::from(option.least), i64::from(option.most)))
+        .help(option.help)
 }
 
-/// A number that may be left out.
+/// A number that has a default.
 fn number_arg<'a>(alloc: Global, option: NumberOption) -> Arg<'a>
     ensures rule { rule_of result ≡ number_rule option.name.now option.most option.default.now }
     ensures local { result.global ≡ false }

@@ -6,6 +6,9 @@ use std::alloc::{AllocError, AllocFailed};
 
 /// What the program is to do. If it changes rows or bounds what they cost, each day of a nurse that changes
 /// from the given roster (to another shift, to off, or from off) costs `keep` points. Another skill is free.
+///
+/// If seconds are given, the run ends after that time at the latest, if it hasn't ended before. What it finds
+/// then depends on the machine.
 #[derive(Debug, Drop)]
 pub enum Command {
     /// Writes the solutions that it was given, in canonical form.
@@ -29,29 +32,34 @@ pub enum Command {
         keep: u16,
     },
     /// Writes a lower bound on all rosters that keep the hard rules, the weeks before week `from` and the
-    /// fixed days: the last that rose in this number of rounds, and then of branchings.
+    /// fixed days: the last that rose in this number of rounds, and then of branchings, before the time was
+    /// up.
     Bound {
         rounds: u16,
         nodes: u16,
+        seconds: Option<u32>,
         from: u16,
         keep: u16,
     },
     /// Writes the solutions after a run that settles the roster, makes a fade, unless only kicks are asked
-    /// for, and then makes kicks as long as this number of searches allows. If no number is given, it depends
-    /// on the case. The seed decides what each kick is, and in which order a fade takes the nurses. The weeks
-    /// before week `from` stay as they are.
+    /// for, and then makes kicks as long as this number of searches and the time allow. If no number is
+    /// given, it is the greatest if seconds are given, and otherwise depends on the case. The seed decides
+    /// what each kick is, and in which order a fade takes the nurses. The weeks before week `from` stay as
+    /// they are.
     Polish {
         searches: Option<u32>,
+        seconds: Option<u32>,
         seed: u32,
         from: u16,
         kicks_alone: bool,
         keep: u16,
     },
     /// Looks for solutions that keep the hard rules, from whatever solutions it was given. Then it settles
-    /// and polishes them as `Polish` does, with the searches that are left. The weeks before week `from` stay
-    /// as they are.
+    /// and polishes them as `Polish` does, with the searches and the time that are left. The weeks before
+    /// week `from` stay as they are.
     Plan {
         searches: Option<u32>,
+        seconds: Option<u32>,
         seed: u32,
         from: u16,
         keep: u16,

@@ -190,6 +190,11 @@ doesn't. The bound is the least of the bounds of the leaves, and the leaf that
 has it is divided next. The log numbers the branchings as further rounds, after
 those that --rounds allows.
 
+With --seconds S, the run ends after that time if nothing else has ended it
+before, with the bound that it has found by then. The same words can then give
+other bounds on another machine, or on the same one when it is busy; without
+--seconds they give the same everywhere.
+
 With --from V, weeks 0 to V - 1 are frozen: the bound holds for those rosters in
 which each nurse's days in them, and those of the section FIXED, are as given.
 If V is above the last week, that is the given roster alone.
@@ -207,6 +212,7 @@ Examples:
   roster bound examples/ward.txt
   roster bound --rounds 300 examples/ward.txt
   roster bound --nodes 100 examples/ward.txt
+  roster bound --seconds 10 examples/ward.txt
   roster bound --rounds 1 --from 2 examples/ward.txt
 
 The files are read one after another, in the order given. Without a file, the
@@ -217,7 +223,11 @@ pub(crate) const NODE_COUNT: &str =
 
 pub(crate) const SEARCH_COUNT: &str =
     "Apart from the first descent the run makes at most N searches, 0 to 10000000; if it is not \
-     given, 400 for each nurse, and 20000 at least";
+     given, 400 for each nurse, and 20000 at least; with --seconds 10000000";
+
+pub(crate) const SECOND_COUNT: &str =
+    "The run ends after S seconds at the latest, 1 to 86400; what it finds then depends on the \
+     machine";
 
 pub(crate) const SEED_NUMBER: &str = "The seed of the run's random numbers, 0 to 4294967295";
 
@@ -270,6 +280,13 @@ this. The same texts, --searches, --seed, --kicks and --from give the same
 rosters. It pays to try several seeds. A run that is ended by Ctrl-C leaves no
 rosters, since they are written at its end.
 
+With --seconds S, the run ends after that time if nothing else has ended it
+before, as it does when no search is left. Without --searches it makes as many
+searches as the time allows, 10000000 at most. The first descent isn't cut off
+by the time: it takes a tenth of a second on a ward. The same words can then
+give other rosters on another machine, or on the same one when it is busy;
+without --seconds they give the same everywhere.
+
 With --from V, weeks 0 to V - 1 are frozen: each nurse's days in them stay as
 they are, and so do those of the section FIXED. All weeks are read and count
 towards the cost. If V is above the last week, nothing changes.
@@ -286,6 +303,7 @@ a nurse, see 'roster sizes'.
 Examples:
   roster polish examples/ward.txt > better.txt
   roster polish --searches 200000 --seed 7 examples/ward.txt > better.txt
+  roster polish --seconds 20 examples/ward.txt > better.txt
   roster polish --from 2 examples/ward.txt > better.txt
   roster polish --kicks examples/ward.txt > better.txt
 
@@ -333,6 +351,14 @@ The same texts, --searches, --seed and --from give the same rosters. It pays to
 try several seeds. A run that is ended by Ctrl-C leaves no rosters, since they
 are written at its end.
 
+With --seconds S, the run ends after that time if nothing else has ended it
+before. If no roster that keeps the hard rules is found by then, it answers
+'not found', as it does when no search is left. Without --searches it makes as
+many searches as the time allows, 10000000 at most. The first descent isn't cut
+off by the time: it takes a tenth of a second on a ward. The same words can then
+give other rosters on another machine, or on the same one when it is busy;
+without --seconds they give the same everywhere.
+
 With --from V, weeks 0 to V - 1 are frozen: each nurse's days in them stay as
 they are, and so do those of the section FIXED. All weeks are read and count
 towards the cost. If V is above the last week, nothing changes. If the days that
@@ -352,6 +378,7 @@ Examples:
   roster plan examples/ward.txt > new.txt
   roster plan scenario.txt history.txt week-0.txt empty.txt > new.txt
   roster plan --searches 200000 --seed 7 examples/ward.txt > new.txt
+  roster plan --seconds 20 examples/ward.txt > new.txt
   roster plan --from 2 examples/ward.txt > new.txt
   roster plan --keep 50 examples/ward.txt > new.txt
 

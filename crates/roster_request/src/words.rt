@@ -2,12 +2,12 @@
 
 ghost use Rattle.std.specs.Prelude.{◌≡◌, ◌≢◌, ◌≤◌, [], Some, codes, IfOk, IfErr, IfSome, OnOk, IsSomeAnd, map, option_map, string_bytes};
 ghost use Rattle.clap.specs.Words.{fault_of, first_of, found_of, kind_of, rows_of, subcommand_rows_of};
-ghost use Rattle.roster_request.specs.CommandLine.{HasArguments, HasFrom, HasKeep, HasNodes, HasNumber, HasRounds, HasSearches, HasSeed, HasText, IsAsked, IsAskedIn, IsFlag, IsGiven, IsInRange, IsNameOf, IsNumberIfGiven, IsNumberOf, IsOneOf, Meets, Refuses, HasKindOf, commands, files_in, name_of, program, with_assignment, with_from, with_keep, with_nodes, with_nurse, with_rounds, with_searches};
+ghost use Rattle.roster_request.specs.CommandLine.{AreSeconds, HasArguments, HasFrom, HasKeep, HasNodes, HasNumber, HasNumberIfGiven, HasRounds, HasSearches, HasSeconds, HasSeed, HasText, IsAsked, IsAskedIn, IsFlag, IsGiven, IsInRange, IsNameOf, IsNumberIfGiven, IsNumberOf, IsOneOf, Meets, Refuses, HasKindOf, commands, files_in, name_of, program, with_assignment, with_from, with_keep, with_nodes, with_nurse, with_rounds, with_searches, with_seconds};
 ghost use Rattle.roster_request.specs.Limits.{most_from, most_keep, most_nodes, most_rounds, most_searches};
 
 use crate::program::{
-    DAY, FILES, FROM, KEEP, KICKS, NODES, NURSE, NumberOption, ROUNDS, SEARCHES, SEED, SHIFT,
-    SKILL, program,
+    DAY, FILES, FROM, KEEP, KICKS, NODES, NURSE, NumberOption, OptionalNumber, ROUNDS, SEARCHES,
+    SECONDS, SEED, SHIFT, SKILL, program,
 };
 use crate::request::{CliFault, Command, Request};
 use crate::texts::EXAMPLES;
@@ -20,8 +20,8 @@ use std::convert::AsStr;
 pub fn request_of<S: AsStr>(alloc: Global, words: &[S]) -> Result<Request, CliFault>
     // The command with its arguments and the files are those that clap's matches give for the words.
     ensures request { IfOk result (IsAsked (map S.text words.now)) }
-    // The rounds, the branchings and the searches of a run, the first week that may change, and the points
-    // are within their limits.
+    // The rounds, the branchings, the searches and the seconds of a run, the first week that may change, and
+    // the points are within their limits.
     ensures range { IfOk result (λ r. IsInRange r.command) }
     ensures faultless { OnOk result (fault_of program (map S.text words.now) ≡ []) }
     ensures refusal { IfErr result (Refuses (map S.text words.now)) }
@@ -42,6 +42,7 @@ fn request_in(alloc: Global, matches: &ArgMatches<'_>) -> Result<Request, CliFau
     requires rounds { Meets with_rounds HasRounds (subcommand_rows_of matches.now) }
     requires nodes { Meets with_nodes HasNodes (subcommand_rows_of matches.now) }
     requires searches { Meets with_searches HasSearches (subcommand_rows_of matches.now) }
+    requires seconds { Meets with_seconds HasSeconds (subcommand_rows_of matches.now) }
     requires seed { Meets with_searches HasSeed (subcommand_rows_of matches.now) }
     requires from { Meets with_from HasFrom (subcommand_rows_of matches.now) }
     requires keep { Meets with_keep HasKeep (subcommand_rows_of matches.now) }
@@ -71,6 +72,7 @@ fn command_in(alloc: Global, name: &str, given: &ArgMatches<'_>) -> Result<Comma
     requires nodes { IsOneOf with_nodes name.now → HasNodes (rows_of (found_of given.now)) }
     requires searches { IsOneOf with_searches name.now →
         HasSearches (rows_of (found_of given.now)) }
+    requires seconds { IsOneOf with_seconds name.now → HasSeconds (rows_of (found_of given.now)) }
     requires seed { IsOneOf with_searches name.now → HasSeed (rows_of (found_of given.now)) }
     requires from { IsOneOf with_from name.now → HasFrom (rows_of (found_of given.now)) }
     requires keep { IsOneOf with_keep name.now → HasKeep (rows_of (found_of given.now)) }
@@ -96,11 +98,13 @@ fn command_in(alloc: Global, name: &str, given: &ArgMatches<'_>) -> Result<Comma
         "bound" => Ok(Command::Bound {
             rounds: rounds_of(given),
             nodes: nodes_of(given),
+            seconds: seconds_of(given),
             from: from_of(given),
             keep: keep_of(given),
         }),
         "polish" => Ok(Command::Polish {
             searches: searches_of(given),
+            seconds: seconds_of(given),
             seed: seed_of(given),
             from: from_of(given),
             kicks_alone: kicks_alone_of(given),
@@ -108,6 +112,7 @@ fn command_in(alloc: Global, name: &str, given: &ArgMatches<'_>) -> Result<Comma
         }),
         "plan" => Ok(Command::Plan {
             searches: searches_of(given),
+            seconds: seconds_of(given),
             seed: seed_of(given),
             from: from_of(given),
             keep: keep_of(given),
@@ -173,7 +178,16 @@ fn searches_of(given: &ArgMatches<'_>) -> Option<u32>
     ensures searches { IsNumberIfGiven (codes "searches") result (rows_of (found_of given.now)) }
     ensures range { IfSome result (λ searches. searches ≤ most_searches) }
 {
-    given.get_one::<u32>(SEARCHES)
+    number_if_given(given, SEARCHES)
+}
+
+/// After how many seconds the run ends at the latest, if that is given.
+fn seconds_of(given: &ArgMatches<'_>) -> Option<u32>
+    requires { HasSeconds (rows_of (found_of given.now)) }
+    ensures seconds { IsNumberIfGiven (codes "seconds") result (rows_of (found_of given.now)) }
+    ensures range { IfSome result AreSeconds }
+{
+    number_if_given(given, SECONDS)
 }
 
 /// The seed of the random numbers.
@@ -211,7 +225,7 @@ fn keep_of(given: &ArgMatches<'_>) -> u16
 
 /// The number of an option, which `clap` has read in its range, or has by its default.
 fn number_of(given: &ArgMatches<'_>, option: NumberOption) -> u32
-    requires { HasNumber option.name.now option.most (rows_of (found_of given.now)) }
+    requires { HasNumber option.name.now 0 option.most (rows_of (found_of given.now)) }
     ensures number { IsNumberOf option.name.now result (rows_of (found_of given.now)) }
     ensures range { result ≤ option.most }
 {
@@ -219,6 +233,16 @@ fn number_of(given: &ArgMatches<'_>, option: NumberOption) -> u32
         unreachable!()
     };
     number
+}
+
+/// The number of an option without a default, which `clap` has read in its range if it is given.
+fn number_if_given(given: &ArgMatches<'_>, option: OptionalNumber) -> Option<u32>
+    requires { HasNumberIfGiven option.name.now option.least option.most
+        (rows_of (found_of given.now)) }
+    ensures number { IsNumberIfGiven option.name.now result (rows_of (found_of given.now)) }
+    ensures range { IfSome result (λ n. (option.least ≤ n) × (n ≤ option.most)) }
+{
+    given.get_one::<u32>(option.name)
 }
 
 fn files_of(alloc: Global, given: &ArgMatches<'_>) -> Result<Vec<String>, AllocError>

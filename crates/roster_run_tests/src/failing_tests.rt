@@ -86,11 +86,13 @@ fn command_of(alloc: Global, name: &str) -> Result<Command, AllocError> {
         "bound" => Command::Bound {
             rounds: 1,
             nodes: 1,
+            seconds: None,
             from: 0,
             keep: 0,
         },
         "polish" => Command::Polish {
             searches: Some(0),
+            seconds: None,
             seed: 1,
             from: 0,
             kicks_alone: false,

@@ -3,8 +3,12 @@
 #![tactic(auto)]
 
 #[cfg(test)]
+mod crossed;
+#[cfg(test)]
 mod failing_tests;
 #[cfg(test)]
 mod hostile_tests;
 #[cfg(test)]
 mod polish_tests;
+#[cfg(test)]
+mod time_tests;

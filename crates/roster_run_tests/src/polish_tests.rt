@@ -1,31 +1,13 @@
 //! Runs of kicks and of a fade: what the seed decides, which no contract states, and a log that fails after
 //! each number of bytes.
 
+use crate::crossed::CROSSED;
 use roster_cli::{Command, Request, run};
 use roster_devices::{AtEnd, ShortWriter};
 use roster_tests::texts::{changed, fill};
 use roster_text::Watch;
 use std::alloc::{AllocError, Global};
 use std::test::Fail;
-
-/// Each nurse works just the days on which the other one wants to work, and no row is cheaper while the
-/// other's stays.
-const CROSSED: [(&str, &str); 3] = [
-    (
-        "(0,1) (0,1) (0,1) (0,1) (0,1) (0,1) (0,1)",
-        "(1,1) (1,1) (1,1) (1,1) (1,1) (1,1) (1,1)",
-    ),
-    (
-        "SHIFT_OFF_REQUESTS = 0",
-        "SHIFT_OFF_REQUESTS = 7\nAnn Any Mon\nAnn Any Tue\nAnn Any Wed\nBob Any Thu\n\
-        Bob Any Fri\nBob Any Sat\nBob Any Sun",
-    ),
-    (
-        "ASSIGNMENTS = 0",
-        "ASSIGNMENTS = 7\nAnn Mon Early Nurse\nAnn Tue Early Nurse\nAnn Wed Early Nurse\n\
-        Bob Thu Early Nurse\nBob Fri Early Nurse\nBob Sat Early Nurse\nBob Sun Early Nurse",
-    ),
-];
 
 /// How a log begins if the first descent changes nothing, and a kick that makes the roster cheaper is kept.
 const BEGIN: &str = "start 70\nkick ";
@@ -47,6 +29,7 @@ fn run_by(
     let request = Request {
         command: Command::Polish {
             searches: Some(if kicks_alone { 300 } else { 100 }),
+            seconds: None,
             seed,
             from: 0,
             kicks_alone,

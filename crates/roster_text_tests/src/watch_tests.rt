@@ -76,7 +76,7 @@ fn a_fault_is_that_of_the_device(rt: HostRuntime) {
 fn a_call_passes_the_device_all_bytes(rt: HostRuntime) -> Result<(), Fail> {
     let mut bytes = Vec::new(rt.alloc());
     bytes.resize(70_000, 0)?;
-    for length in [0, 1, 8, 9, 4_097, 8_193, 65_537, 70_000] {
+    for length in [0, 1, 8, 9, 4_097, 8_193, 65_536, 65_537, 70_000] {
         let mut device = Watch::new(Witness {
             passed: 70_001,
             fault: None,

@@ -43,6 +43,7 @@ loop-rounds_before-init g c =
       below = λ r fits keeps stays. omega arith;
       within = omega arith;
       made = omega arith;
+      ends = c.left.ensures.later.ends;
       counted = omega arith;
       fits = c.begin.ensures.fits;
     }
@@ -72,6 +73,7 @@ loop-rounds_before-preserved g c =
       below = round.ensures.below;
       within = round.ensures.below b.given.now b.fits c.args.top.now.keeps (stays_self b.case.now b.from b.given.now);
       made = omega (arith, l.invariant.made, round.ensures.counted.made);
+      ends = c.left_after_step.ensures.later.ends ∙ l.invariant.ends;
       counted = round_counted b.case.now l.rounds_before c.args.meter.now l.meter l.invariant.counted round.new.meter round.ensures.counted.counted;
       fits = c.prepare_next.ensures;
     }
@@ -90,6 +92,7 @@ loop-rounds_before-preserved-then-round-best g c =
       below = l.invariant.below;
       within = l.invariant.within;
       made = omega (arith, l.invariant.made, round.ensures.counted.made);
+      ends = c.left_after_step.ensures.later.ends ∙ l.invariant.ends;
       counted = round_counted b.case.now l.rounds_before c.args.meter.now l.meter l.invariant.counted round.new.meter round.ensures.counted.counted;
       fits = c.prepare_next.ensures;
     }
@@ -113,8 +116,8 @@ pub returns-then-best-top-clause-ok : goal.returns-then-best-top-clause-ok
 returns-then-best-top-clause-ok g c =
     let l = c.loop-rounds_before in
     let b = c.args.top.now.base.now in
-    ends_met g.W.Write.contents b.case.now b.from b.given.now b.scale c.args.log.now c.args.rounds c.args.meter.now l.meter l.log l.rounds_before l.gains.top l.gains.barren l.sent l.best l.invariant.so_far b.in_scale l.invariant.made
-    (omega (arith, c.loop-rounds_before-test.true)) (omega (arith, c.if-best-top.true, c.args.top.now.total_is)) b.fits c.args.top.now.keeps
+    rw (c.reached_by.ensures.reached, c.reached_by.ensures.rounds) (ends_met g.W.Write.contents b.case.now b.from b.given.now b.scale c.args.log.now c.args.rounds c.args.meter.now l.meter l.log l.rounds_before l.gains.top l.gains.barren l.sent l.best l.invariant.so_far b.in_scale l.invariant.made
+    (omega (arith, c.loop-rounds_before-test.true)) (omega (arith, c.if-best-top.true, c.args.top.now.total_is)) b.fits c.args.top.now.keeps)
 
 pub returns-then-best-top-clause-counted : goal.returns-then-best-top-clause-counted
 returns-then-best-top-clause-counted g c =
@@ -125,8 +128,8 @@ pub returns-clause-ok : goal.returns-clause-ok
 returns-clause-ok g c =
     let l = c.loop-rounds_before in
     let b = c.args.top.now.base.now in
-    ends_all g.W.Write.contents b.case.now b.from b.given.now b.scale c.args.log.now c.args.rounds c.args.meter.now l.meter l.log l.rounds_before l.gains.top l.gains.barren l.sent l.best l.invariant.so_far b.in_scale l.invariant.made
-    (omega (arith, l.auto.rounds_before-end)) (omega (arith, c.loop-rounds_before-test.false))
+    rw (c.reached_by-2.ensures.reached, c.reached_by-2.ensures.rounds) (ends_all g.W.Write.contents b.case.now b.from b.given.now b.scale c.args.log.now c.args.rounds c.args.meter.now l.meter l.log l.rounds_before l.gains.top l.gains.barren l.sent l.best l.invariant.so_far b.in_scale l.invariant.made
+    (omega (arith, l.auto.rounds_before-end)) (omega (arith, c.loop-rounds_before-test.false)))
 
 -- ---- the last rounds were barren
 
@@ -134,10 +137,24 @@ pub returns-then-gains-ge-MOST_BARREN-clause-ok : goal.returns-then-gains-ge-MOS
 returns-then-gains-ge-MOST_BARREN-clause-ok g c =
     let l = c.loop-rounds_before in
     let b = c.args.top.now.base.now in
-    ends_barren g.W.Write.contents b.case.now b.from b.given.now b.scale c.args.log.now c.args.rounds c.args.meter.now l.meter l.log l.rounds_before l.gains.top l.gains.barren l.sent l.best l.invariant.so_far b.in_scale l.invariant.made
-    (omega (arith, c.loop-rounds_before-test.true)) c.if-gains-ge-MOST_BARREN.true
+    rw (c.reached_by-then-gains-ge-MOST_BARREN.ensures.reached, c.reached_by-then-gains-ge-MOST_BARREN.ensures.rounds) (ends_barren g.W.Write.contents b.case.now b.from b.given.now b.scale c.args.log.now c.args.rounds c.args.meter.now l.meter l.log l.rounds_before l.gains.top l.gains.barren l.sent l.best l.invariant.so_far b.in_scale l.invariant.made
+    (omega (arith, c.loop-rounds_before-test.true)) c.if-gains-ge-MOST_BARREN.true)
 
 pub returns-then-gains-ge-MOST_BARREN-clause-counted : goal.returns-then-gains-ge-MOST_BARREN-clause-counted
 returns-then-gains-ge-MOST_BARREN-clause-counted g c =
+    let l = c.loop-rounds_before in
+    rounds_within c.args.top.now.base.now.case.now l.rounds_before c.args.meter.now l.meter l.invariant.counted c.args.rounds (omega (arith, c.loop-rounds_before-test.true))
+
+-- ---- the time is up
+
+pub returns-then-left_after_step-eq0-clause-ok : goal.returns-then-left_after_step-eq0-clause-ok
+returns-then-left_after_step-eq0-clause-ok g c =
+    let l = c.loop-rounds_before in
+    let b = c.args.top.now.base.now in
+    rw (c.reached_by-then-left_after_step-eq0.ensures.reached, c.reached_by-then-left_after_step-eq0.ensures.rounds) (ends_all g.W.Write.contents b.case.now b.from b.given.now b.scale c.args.log.now l.rounds_before c.args.meter.now l.meter l.log l.rounds_before l.gains.top l.gains.barren l.sent l.best l.invariant.so_far b.in_scale l.invariant.made
+    (omega arith) (omega arith))
+
+pub returns-then-left_after_step-eq0-clause-counted : goal.returns-then-left_after_step-eq0-clause-counted
+returns-then-left_after_step-eq0-clause-counted g c =
     let l = c.loop-rounds_before in
     rounds_within c.args.top.now.base.now.case.now l.rounds_before c.args.meter.now l.meter l.invariant.counted c.args.rounds (omega (arith, c.loop-rounds_before-test.true))

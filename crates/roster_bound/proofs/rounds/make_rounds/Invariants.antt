@@ -18,6 +18,7 @@ invariant-loop-rounds_before g l = record {
   below : IsLowerBound l.top.base.now.case.now l.top.base.now.from l.top.base.now.given.now l.best;
   within : l.best ≤ penalty l.top.base.now.case.now l.top.base.now.given.now;
   made : l.fn.meter + l.rounds_before * (nurse_count l.top.base.now.case.now * day_count l.top.base.now.case.now) ≤ l.meter;
+  ends : l.deadline.ends ≡ l.fn.deadline.ends;
   counted : l.meter ≤ l.fn.meter + extensions_in l.top.base.now.case.now l.rounds_before;
   fits : FitsBound l.top.base.now.case.now l.workspace;
 }

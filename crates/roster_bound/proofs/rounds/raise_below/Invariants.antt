@@ -15,6 +15,7 @@ invariant-loop-branched g l = record {
   below : IsLowerBound l.top.base.now.case.now l.top.base.now.from l.top.base.now.given.now l.reached.bound;
   nodes : AreNodesOf l.top.base.now.case.now l.top.base.now.from l.top.base.now.given.now l.space.nodes.items.items;
   same_nodes : nodes_capacity l.space.nodes ≡ nodes_capacity l.fn.space.nodes;
+  ends : l.deadline.ends ≡ l.fn.deadline.ends;
   counted : l.meter ≤ l.fn.meter + extensions_in l.top.base.now.case.now (l.effort.rounds + l.branched * (2 * node_rounds));
   fits : FitsBound l.top.base.now.case.now l.space.bounds;
 }

@@ -12,6 +12,7 @@ invariant-loop-made g l = record {
   priced : IsPriced l.upper.base.now.case.now l.upper.base.now.from l.upper.base.now.given.now l.node;
   rises : l.fn.node.bound ≤ l.node.bound;
   fits : FitsBound l.upper.base.now.case.now l.bounds;
+  ends : l.deadline.ends ≡ l.fn.deadline.ends;
   grows : l.fn.meter ≤ l.meter;
   counted : l.meter ≤ l.fn.meter + extensions_in l.upper.base.now.case.now l.made;
 }

@@ -1,10 +1,11 @@
-use Rattle.std.proofs.Common.{ap, false, refl, subst, sym}
+use Rattle.std.proofs.Common.{◌∙◌, ap, false, refl, subst, sym}
 use Rattle.roster_instance.specs.Meaning.{Meaning}
 use Rattle.roster_case.specs.Shown.{weeks_text}
-use Rattle.roster_answers.specs.Answer.{IsWhoReport, Output, Reports, best_report, cost_report, improve_report, names_in, outcome_of, plain}
+use Rattle.roster_answers.specs.Answer.{IsBoundWithin, IsWhoReport, Output, Reports, best_report, cost_report, improve_report, names_in, outcome_of, plain}
 use Rattle.roster_cli.specs.Answer.{IsPlanReport, IsPolishReport, IsReportIn}
 use Rattle.roster_reports.specs.Lines.{sizes_text}
 use Rattle.roster_answers.proofs.AnswerLemmas.{plain_ends, silent_log}
+use Rattle.roster_cli.proofs.AnswerLemmas.{none_of}
 use Rattle.roster_cli.proofs.commands.report.Goals as goal
 
 pub returns-in-Show : goal.returns-in-Show
@@ -53,7 +54,10 @@ returns-in-Improve g c =
 pub returns-in-Bound : goal.returns-in-Bound
 returns-in-Bound g c =
     let made = c.report_bound.ensures in
-    record { report = made.report; is = subst (λ x. IsReportIn x c.args.instance.case c.args.instance.roster made.report) (sym c.in-Bound.is) made.is; ends = made.ends; logged = made.logged }
+    let is = made.is in
+    let within : IsBoundWithin (record { rounds = c.in-Bound.rounds; nodes = c.in-Bound.nodes }) c.in-Bound.seconds c.in-Bound.from c.args.instance.case c.args.instance.roster made.report =
+    record { made = is.made; rounds = is.rounds; nodes = is.nodes; all = λ none. is.all (c.start.ensures.ends ∙ none_of _ _ none); report = is.report } in
+    record { report = made.report; is = subst (λ x. IsReportIn x c.args.instance.case c.args.instance.roster made.report) (sym c.in-Bound.is) within; ends = made.ends; logged = made.logged }
 
 pub returns-in-Polish : goal.returns-in-Polish
 returns-in-Polish g c =

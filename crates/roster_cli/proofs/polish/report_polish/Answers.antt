@@ -35,7 +35,7 @@ returns-in-Ok-polish g c =
     let kept = subst (λ (m : Meaning). hard_faults m c.args.instance.roster ≡ []) c.new-meter.ensures.same c.in_ok-held.ensures.kept in
     let last = c.polish.new.held.roster in
     let polished = c.in-Ok-polish.field-0 in
-    let made = subst (λ (k : Course). Polishes g.Log.Write.contents c.in_ok-held.held.case k.from c.in_ok-held.held.roster (penalty c.in_ok-held.held.case c.in_ok-held.held.roster) k.searches k.kicks_alone last c.args.log.now c.polish.new.log polished) c.within_capacity-course.ensures c.in-Ok-polish.ensures.ok in
+    let made = subst (λ (k : Course g.row.K.Denot). Polishes g.Log.Write.contents c.in_ok-held.held.case k.from c.in_ok-held.held.roster (penalty c.in_ok-held.held.case c.in_ok-held.held.roster) k.searches k.kicks_alone last c.args.log.now c.polish.new.log polished) c.within_capacity-course.ensures c.in-Ok-polish.ensures.ok in
     let polishes = subst (λ (h : HeldRoster). Polishes g.Log.Write.contents h.case c.args.course.now.from h.roster (penalty h.case h.roster) (min c.args.course.now.searches most_searches) c.args.course.now.kicks_alone last c.args.log.now c.polish.new.log polished) held made in
     let case_is = c.case-in-Ok-polish.ensures ∙ c.polish.ensures.case ∙ ap (λ (h : HeldRoster). h.case) held in
     let shown = c.show_weeks.result in
@@ -51,6 +51,6 @@ returns g c =
     let held = c.in_ok-held.ensures.held ∙ ap of_case c.new-meter.ensures.same in
     let kept = subst (λ (m : Meaning). hard_faults m c.args.instance.roster ≡ []) c.new-meter.ensures.same c.in_ok-held.ensures.kept in
     let f = c.in-Err-LogFailed.field-0 in
-    let stops_then = subst (λ (k : Course). PolishLogStops g.Log.Write.contents c.in_ok-held.held.case k.from c.in_ok-held.held.roster (penalty c.in_ok-held.held.case c.in_ok-held.held.roster) k.searches k.kicks_alone c.polish.new.held.roster c.args.log.now c.polish.new.log f) c.within_capacity-course.ensures c.in-Err-LogFailed.ensures.err in
+    let stops_then = subst (λ (k : Course g.row.K.Denot). PolishLogStops g.Log.Write.contents c.in_ok-held.held.case k.from c.in_ok-held.held.roster (penalty c.in_ok-held.held.case c.in_ok-held.held.roster) k.searches k.kicks_alone c.polish.new.held.roster c.args.log.now c.polish.new.log f) c.within_capacity-course.ensures c.in-Err-LogFailed.ensures.err in
     let stops = subst (λ (h : HeldRoster). PolishLogStops g.Log.Write.contents h.case c.args.course.now.from h.roster (penalty h.case h.roster) (min c.args.course.now.searches most_searches) c.args.course.now.kicks_alone c.polish.new.held.roster c.args.log.now c.polish.new.log f) held stops_then in
     polish_stops c.args.course.now.searches c.args.course.now.from c.args.course.now.kicks_alone c.args.instance.case c.args.instance.roster output log (min c.args.course.now.searches most_searches) (omega arith) c.polish.new.held.roster f kept stops refl

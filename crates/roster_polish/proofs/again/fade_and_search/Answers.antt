@@ -12,7 +12,7 @@ returns-then-not-fade_anew-clause-searched g c =
     record {
       faded = fade.new.space.faded;
       reached = fade.new.held.roster;
-      fades = subst (IsFadedAnew c.args.held.now.case c.args.from fade.new.kicking.searches.left c.args.held.now.roster fade.new.space.faded fade.new.held.roster) c.if-not-fade_anew.true fade.ensures.fades;
+      fades = subst (IsFadedAnew c.args.held.now.case c.args.from fade.new.kicking.searches c.args.held.now.roster fade.new.space.faded fade.new.held.roster) c.if-not-fade_anew.true fade.ensures.fades;
       no_dearer = λ e. absurd (true≢false (sym e));
     }
 
@@ -24,7 +24,7 @@ returns-clause-searched g c =
     record {
       faded = fade.new.space.faded;
       reached = fade.new.held.roster;
-      fades = faded_later k c.args.from fade.new.kicking.searches.left c.search_on.new.searches.left c.args.held.now.roster fade.new.space.faded fade.new.held.roster
-          (subst (IsFadedAnew k c.args.from fade.new.kicking.searches.left c.args.held.now.roster fade.new.space.faded fade.new.held.roster) c.if-not-fade_anew.false fade.ensures.fades);
+      fades = faded_later k c.args.from fade.new.kicking.searches c.search_on.new.searches c.args.held.now.roster fade.new.space.faded fade.new.held.roster
+          (subst (IsFadedAnew k c.args.from fade.new.kicking.searches c.args.held.now.roster fade.new.space.faded fade.new.held.roster) c.if-not-fade_anew.false fade.ensures.fades);
       no_dearer = λ e. subst (λ (m : Meaning). penalty m last ≤ penalty m fade.new.held.roster) fade.ensures.goes_on.case c.search_on.ensures.no_dearer;
     }

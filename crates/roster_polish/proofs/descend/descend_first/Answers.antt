@@ -19,14 +19,15 @@ loop-rounds_before-preserved g c =
     let logged = c.make_pass.ensures in
     let next = c.make_pass.new.held.roster in
     let one : nurse_count l.held.case ≤ l.searches.left = subst (λ (m : Meaning). nurse_count m ≤ l.searches.left) (sym i.case) (enough_for_one (nurse_count k) descent_rounds l.rounds_before l.searches.left c.loop-rounds_before-test.true i.left) in
-    let is_round : next ≡ round k (best_row k from) l.held.roster = subst (λ (m : Meaning). next ≡ round m (best_row m from) l.held.roster) i.case (logged.round refl one) in
-    let differs = was_other (same_rows next l.held.roster) c.make_pass.result (logged.end refl one) c.in_default.not-Unchanged in
+    let is_round : next ≡ round k (best_row k from) l.held.roster = subst (λ (m : Meaning). next ≡ round m (best_row m from) l.held.roster) i.case (logged.round refl one i.ends) in
+    let differs = was_other (same_rows next l.held.roster) c.make_pass.result (logged.end refl one i.ends) c.in_default.not-Unchanged in
     record {
       case = logged.case ∙ i.case;
       run_is = i.run_is ∙ run_goes_on k from l.held.roster next descent_rounds l.rounds_before c.loop-rounds_before-test.true is_round differs;
       rounds = omega (arith, i.rounds, rounds_go_on k from l.held.roster next descent_rounds l.rounds_before c.loop-rounds_before-test.true is_round differs);
       few = omega (arith, i.few, one_and_rest l.rounds_before (nurse_count k), subst (λ (m : Meaning). l.searches.left ≤ c.make_pass.new.searches.left + nurse_count m) i.case (logged.few refl));
       left = enough_after (nurse_count k) descent_rounds l.rounds_before l.searches.left c.loop-rounds_before-test.true i.left c.make_pass.new.searches.left (subst (λ (m : Meaning). l.searches.left ≤ c.make_pass.new.searches.left + nurse_count m) i.case (logged.few refl));
+      ends = logged.ends ∙ i.ends;
       spends = spent_both k c.args.meter.now (first_searches k) l.meter l.searches.left c.make_pass.new.meter c.make_pass.new.searches.left i.spends (subst (λ (m : Meaning). Spends m l.meter l.searches.left c.make_pass.new.meter c.make_pass.new.searches.left) i.case logged.spends);
       fits = subst (λ (m : Meaning). fits_space m c.make_pass.new.workspace ≡ true) i.case logged.fits;
       recalls = subst (λ (m : Meaning). RecallsSearches m c.make_pass.new.last) i.case logged.recalls;
@@ -65,8 +66,8 @@ ended g c =
     let logged = c.make_pass.ensures in
     let next = c.make_pass.new.held.roster in
     let one : nurse_count l.held.case ≤ l.searches.left = subst (λ (m : Meaning). nurse_count m ≤ l.searches.left) (sym i.case) (enough_for_one (nurse_count k) descent_rounds l.rounds_before l.searches.left c.loop-rounds_before-test.true i.left) in
-    let is_round : next ≡ round k (best_row k from) l.held.roster = subst (λ (m : Meaning). next ≡ round m (best_row m from) l.held.roster) i.case (logged.round refl one) in
-    let same = was_same (same_rows next l.held.roster) c.make_pass.result (logged.end refl one) c.in-Unchanged.is in
+    let is_round : next ≡ round k (best_row k from) l.held.roster = subst (λ (m : Meaning). next ≡ round m (best_row m from) l.held.roster) i.case (logged.round refl one i.ends) in
+    let same = was_same (same_rows next l.held.roster) c.make_pass.result (logged.end refl one i.ends) c.in-Unchanged.is in
     i.run_is ∙ run_ends k from l.held.roster next descent_rounds l.rounds_before c.loop-rounds_before-test.true is_round same
 
 pub returns-in-Unchanged-clause-counted : goal.returns-in-Unchanged-clause-counted
@@ -79,8 +80,8 @@ returns-in-Unchanged-clause-counted g c =
     let logged = c.make_pass.ensures in
     let next = c.make_pass.new.held.roster in
     let one : nurse_count l.held.case ≤ l.searches.left = subst (λ (m : Meaning). nurse_count m ≤ l.searches.left) (sym i.case) (enough_for_one (nurse_count k) descent_rounds l.rounds_before l.searches.left c.loop-rounds_before-test.true i.left) in
-    let is_round : next ≡ round k (best_row k from) l.held.roster = subst (λ (m : Meaning). next ≡ round m (best_row m from) l.held.roster) i.case (logged.round refl one) in
-    let same = was_same (same_rows next l.held.roster) c.make_pass.result (logged.end refl one) c.in-Unchanged.is in
+    let is_round : next ≡ round k (best_row k from) l.held.roster = subst (λ (m : Meaning). next ≡ round m (best_row m from) l.held.roster) i.case (logged.round refl one i.ends) in
+    let same = was_same (same_rows next l.held.roster) c.make_pass.result (logged.end refl one i.ends) c.in-Unchanged.is in
     let all : l.rounds_before + 1 ≡ rounds_made k from descent_rounds given = omega (arith, i.rounds, rounds_end k from l.held.roster next descent_rounds l.rounds_before c.loop-rounds_before-test.true is_round same) in
     let spends = spent_both k c.args.meter.now (first_searches k) l.meter l.searches.left c.make_pass.new.meter c.make_pass.new.searches.left i.spends (subst (λ (m : Meaning). Spends m l.meter l.searches.left c.make_pass.new.meter c.make_pass.new.searches.left) i.case logged.spends) in
     let few : first_searches k ≤ c.make_pass.new.searches.left + (l.rounds_before + 1) * nurse_count k = omega (arith, i.few, one_and_rest l.rounds_before (nurse_count k), subst (λ (m : Meaning). l.searches.left ≤ c.make_pass.new.searches.left + nurse_count m) i.case (logged.few refl)) in

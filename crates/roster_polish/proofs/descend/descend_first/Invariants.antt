@@ -1,4 +1,4 @@
-use Rattle.std.proofs.Common.{◌≡◌, ◌+◌, ◌-◌, ◌*◌, ◌≤◌, true}
+use Rattle.std.proofs.Common.{◌≡◌, ◌+◌, ◌-◌, ◌*◌, ◌≤◌, None, true}
 use Rattle.roster_instance.specs.Meaning.{nurse_count}
 use Rattle.roster_rules.specs.AllowedRows.{best_row}
 use Rattle.roster_rules.specs.Improver.{run}
@@ -15,6 +15,7 @@ invariant-loop-rounds_before g l = record {
   rounds : rounds_made l.fn.held.case l.fn.from descent_rounds l.fn.held.roster ≡ l.rounds_before + rounds_made l.fn.held.case l.fn.from (descent_rounds - l.rounds_before) l.held.roster;
   few : first_searches l.fn.held.case ≤ l.searches.left + l.rounds_before * nurse_count l.fn.held.case;
   left : (descent_rounds - l.rounds_before) * nurse_count l.fn.held.case ≤ l.searches.left;
+  ends : l.searches.deadline.ends ≡ None;
   spends : Spends l.fn.held.case l.fn.meter (first_searches l.fn.held.case) l.meter l.searches.left;
   fits : fits_space l.fn.held.case l.workspace ≡ true;
   recalls : RecallsSearches l.fn.held.case l.last;

@@ -12,6 +12,7 @@ invariant-loop-nurse g l = record {
   pass : PassTo l.fn.held.case l.first.from l.fn.held.roster l.held.roster l.changed l.first.nurse l.nurse;
   frozen : FrozenDaysStay l.fn.held.case l.first.from l.fn.held.roster l.held.roster;
   few : l.fn.searches.left + l.first.nurse ≤ l.searches.left + l.nurse;
+  ends : l.searches.deadline.ends ≡ l.fn.searches.deadline.ends;
   spends : Spends l.fn.held.case l.fn.meter l.fn.searches.left l.meter l.searches.left;
   fits : fits_space l.fn.held.case l.workspace ≡ true;
   recalls : RecallsSearches l.fn.held.case l.last;

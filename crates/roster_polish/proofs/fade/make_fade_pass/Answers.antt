@@ -64,6 +64,7 @@ loop-position-preserved g c =
         best = logged.best ∙ before.best;
         frozen = logged.frozen;
         passes = before.passes;
+        ends = c.take_if.ensures.ends ∙ before.ends;
         made = made_both k c.args.meter.now c.args.kicking.now.searches.left l.meter left c.fade_nurse-searched.new.meter new_left before.made both.0;
         spends = spends;
         recalls = logged.recalls;

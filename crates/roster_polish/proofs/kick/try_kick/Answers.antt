@@ -58,7 +58,7 @@ returns g c =
       decided = record {
         kicked = first.new.held.roster;
         frozen = kicked.frozen;
-        stays = subst (λ n. StaysIfNoDearer k week n last.new.searches.left first.new.held.roster next last.result) c.total-penalty.ensures.total
-            (subst (λ (m : Meaning). StaysIfNoDearer m week c.total-penalty.result last.new.searches.left first.new.held.roster next last.result) kicked.case last.ensures.decided);
+        stays = subst (λ n. StaysIfNoDearer k week n last.new.searches first.new.held.roster next last.result) c.total-penalty.ensures.total
+            (subst (λ (m : Meaning). StaysIfNoDearer m week c.total-penalty.result last.new.searches first.new.held.roster next last.result) kicked.case last.ensures.decided);
       };
     }

@@ -6,7 +6,9 @@ use Rattle.roster_costs.specs.Minimums.{missing}
 use Rattle.roster_polish.specs.Plans.{keeps_rows}
 use Rattle.roster_polish.proofs.Fading.{made_both}
 use Rattle.roster_polish.proofs.Keeping.{same_days}
-use Rattle.roster_polish.proofs.Steps.{spent_both}
+use Rattle.roster_polish.specs.Fades.{AreMade}
+use Rattle.roster_polish.specs.Settled.{extensions_of}
+use Rattle.roster_polish.proofs.Steps.{rest_fits_meter, spent_both, spent_read}
 use Rattle.roster_polish.proofs.plan.fade_until_kept.Goals as goal
 
 -- what holds of both holds of either
@@ -32,6 +34,15 @@ module _ (short_by : Rows → ℕ) (kept faded new : Rows) (least new_least : �
           let above : least ≤ short_by faded = ltb-false (short_by faded) least not_less in
           (omega (arith, is, least_is, above, at), omega (arith, at))
 
+pub fade_and_repair-requires-clause-able : goal.fade_and_repair-requires-clause-able
+fade_and_repair-requires-clause-able g c =
+    let k = c.args.base.now.case.now in
+    let l = c.fades in
+    record {
+      fits = l.invariant.fits;
+      room = omega (arith, ap (extensions_of k) c.are_over.ensures.read.left, rest_fits_meter k c.args.meter.now c.args.kicking.now.searches.left l.meter l.kicking.searches.left 18446744073709551615 l.invariant.spends c.requires.able.room);
+    }
+
 pub put_rows-requires : goal.put_rows-requires
 put_rows-requires g c = same_days c.args.base.now.case.now c.fade_and_repair.new.space.faded c.fade_and_repair.new.space.kept c.fade_and_repair.ensures.faded.fits.faded c.fade_and_repair.ensures.faded.fits.kept
 
@@ -50,8 +61,9 @@ fades-preserved g c =
       least = λ rows. (nearer_of rows).0;
       nearer = λ rows. omega (arith, (nearer_of rows).1, ap short_by faded.kept, l.invariant.nearer rows);
       passes = omega (arith, c.passes_after-kicking.ensures, faded.passes, l.invariant.passes);
+      ends = faded.ends ∙ c.are_over.ensures.read.ends ∙ l.invariant.ends;
       frozen = of_either stay (nat_lt (short_by logged.new.space.faded) l.least) logged.new.space.faded logged.new.space.kept kept.new.space.kept kept.ensures.kept faded.frozen (subst stay (sym faded.kept) l.invariant.frozen);
-      made = made_both k c.args.meter.now c.args.kicking.now.searches.left l.meter l.kicking.searches.left logged.new.meter logged.new.kicking.searches.left l.invariant.made faded.made;
-      spends = spent_both k c.args.meter.now c.args.kicking.now.searches.left l.meter l.kicking.searches.left logged.new.meter logged.new.kicking.searches.left l.invariant.spends faded.spends;
+      made = made_both k c.args.meter.now c.args.kicking.now.searches.left l.meter l.kicking.searches.left logged.new.meter logged.new.kicking.searches.left l.invariant.made (subst (λ n. AreMade k l.meter n logged.new.meter logged.new.kicking.searches.left) c.are_over.ensures.read.left faded.made);
+      spends = spent_both k c.args.meter.now c.args.kicking.now.searches.left l.meter l.kicking.searches.left logged.new.meter logged.new.kicking.searches.left l.invariant.spends (spent_read k l.meter l.kicking.searches.left c.are_over.new.self.left logged.new.meter logged.new.kicking.searches.left c.are_over.ensures.read.left faded.spends);
       fits = kept.ensures.fits;
     }

@@ -12,6 +12,7 @@ invariant-fades g l = record {
   least : keeps_rows l.base.case.now l.base.given.now ≡ true → l.least ≡ missing l.base.case.now l.space.kept;
   nearer : keeps_rows l.base.case.now l.base.given.now ≡ true → missing l.base.case.now l.space.kept ≤ missing l.base.case.now l.base.given.now;
   passes : 0 < l.kicking.passes;
+  ends : l.kicking.searches.deadline.ends ≡ l.fn.kicking.searches.deadline.ends;
   frozen : FrozenDaysStay l.base.case.now l.base.from l.base.given.now l.space.kept;
   made : AreMade l.base.case.now l.fn.meter l.fn.kicking.searches.left l.meter l.kicking.searches.left;
   spends : Spends l.base.case.now l.fn.meter l.fn.kicking.searches.left l.meter l.kicking.searches.left;

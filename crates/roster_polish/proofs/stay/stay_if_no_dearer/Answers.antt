@@ -56,7 +56,7 @@ returns-then-total-aim g c =
       decided = record {
         reached = next;
         settled = true;
-        descends = subst (Descends k week c.args.aim.penalty last.new.searches.left c.args.held.now.roster next) c.if-settled.true last.ensures.descent;
+        descends = subst (Descends k week c.args.aim.penalty last.new.searches c.args.held.now.roster next) c.if-settled.true last.ensures.descent;
         stays = sym (le-leb (penalty k next) c.args.aim.penalty (omega (arith, c.total.ensures.total, c.if-total-aim.true, ap (λ (m : Meaning). penalty m next) last.ensures.case)));
         holds = λ e. refl;
       };

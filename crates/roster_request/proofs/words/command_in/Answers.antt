@@ -25,6 +25,15 @@ from_of-requires-in-bound c = c.requires.from (inr (inr (inr (inr (inr (inl c.in
 pub searches_of-requires : goal.searches_of-requires
 searches_of-requires c = c.requires.searches (inl c.in-polish.is)
 
+pub seconds_of-requires : goal.seconds_of-requires
+seconds_of-requires c = c.requires.seconds (inl c.in-bound.is)
+
+pub seconds_of-requires-in-polish : goal.seconds_of-requires-in-polish
+seconds_of-requires-in-polish c = c.requires.seconds (inr (inl c.in-polish.is))
+
+pub seconds_of-requires-in-plan : goal.seconds_of-requires-in-plan
+seconds_of-requires-in-plan c = c.requires.seconds (inr (inr (inl c.in-plan.is)))
+
 pub seed_of-requires : goal.seed_of-requires
 seed_of-requires c = c.requires.seed (inl c.in-polish.is)
 

@@ -11,21 +11,21 @@ unreachable-requires c =
     let found = found_of c.args.given.now in
     let name = c.args.option.name.now in
     let most = c.args.option.most in
-    let read = number_read name most (omega arith) found (λ bs r. ParsesUnsigned 32 10 bs r × ExplainsUnsignedError 10 bs r × HasUnsignedDigitsIfOk bs r) (λ t r g. g.0) c.requires c.get_one.result c.get_one.ensures.value in
-    subst (λ (o : Option ℕ). IsSomeAnd o (λ n. IsNumberOf name n (rows_of found) × (n ≤ most))) c.in_default.is read
+    let read = number_read name 0 most (omega arith) found (λ bs r. ParsesUnsigned 32 10 bs r × ExplainsUnsignedError 10 bs r × HasUnsignedDigitsIfOk bs r) (λ t r g. g.0) c.requires c.get_one.result c.get_one.ensures.value in
+    subst (λ (o : Option ℕ). IsSomeAnd o (λ n. IsNumberOf name n (rows_of found) × (0 ≤ n) × (n ≤ most))) c.in_default.is read
 
 pub returns-clause-number : goal.returns-clause-number
 returns-clause-number c =
     let found = found_of c.args.given.now in
     let name = c.args.option.name.now in
     let most = c.args.option.most in
-    let read = number_read name most (omega arith) found (λ bs r. ParsesUnsigned 32 10 bs r × ExplainsUnsignedError 10 bs r × HasUnsignedDigitsIfOk bs r) (λ t r g. g.0) c.requires c.get_one.result c.get_one.ensures.value in
-    (subst (λ (o : Option ℕ). IsSomeAnd o (λ n. IsNumberOf name n (rows_of found) × (n ≤ most))) c.in-Some.is read).0
+    let read = number_read name 0 most (omega arith) found (λ bs r. ParsesUnsigned 32 10 bs r × ExplainsUnsignedError 10 bs r × HasUnsignedDigitsIfOk bs r) (λ t r g. g.0) c.requires c.get_one.result c.get_one.ensures.value in
+    (subst (λ (o : Option ℕ). IsSomeAnd o (λ n. IsNumberOf name n (rows_of found) × (0 ≤ n) × (n ≤ most))) c.in-Some.is read).0
 
 pub returns-clause-range : goal.returns-clause-range
 returns-clause-range c =
     let found = found_of c.args.given.now in
     let name = c.args.option.name.now in
     let most = c.args.option.most in
-    let read = number_read name most (omega arith) found (λ bs r. ParsesUnsigned 32 10 bs r × ExplainsUnsignedError 10 bs r × HasUnsignedDigitsIfOk bs r) (λ t r g. g.0) c.requires c.get_one.result c.get_one.ensures.value in
-    (subst (λ (o : Option ℕ). IsSomeAnd o (λ n. IsNumberOf name n (rows_of found) × (n ≤ most))) c.in-Some.is read).1
+    let read = number_read name 0 most (omega arith) found (λ bs r. ParsesUnsigned 32 10 bs r × ExplainsUnsignedError 10 bs r × HasUnsignedDigitsIfOk bs r) (λ t r g. g.0) c.requires c.get_one.result c.get_one.ensures.value in
+    (subst (λ (o : Option ℕ). IsSomeAnd o (λ n. IsNumberOf name n (rows_of found) × (0 ≤ n) × (n ≤ most))) c.in-Some.is read).2

@@ -4,9 +4,9 @@ use Rattle.std.proofs.lemmas.Result.{IfErr-weaker}
 use Rattle.clap.specs.Simple.{HasMatchesOf}
 use Rattle.clap.specs.Words.{App, HasKind, Row, Text, fault_of, is_simple, is_simple_and_free, kind_of, subcommand_of, subcommand_rows_of, takes}
 use Rattle.clap.specs.declared.parser.matches.ArgMatches.{ArgMatches}
-use Rattle.roster_request.specs.CommandLine.{HasFrom, HasKeep, HasNodes, HasRounds, HasSearches, HasSeed, HasText, IsAskedIn, IsGiven, IsNameOf, Meets, Refuses, commands, program, with_assignment, with_from, with_keep, with_nodes, with_nurse, with_rounds, with_searches}
+use Rattle.roster_request.specs.CommandLine.{HasFrom, HasKeep, HasNodes, HasRounds, HasSearches, HasSeconds, HasSeed, HasText, IsAskedIn, IsGiven, IsNameOf, Meets, Refuses, commands, program, with_assignment, with_from, with_keep, with_nodes, with_nurse, with_rounds, with_searches, with_seconds}
 use Rattle.roster_request.proofs.CommandLineLemmas.{meets_command, refuses}
-use Rattle.roster_request.proofs.NumberLemmas.{meets_from, meets_keep, meets_nodes, meets_rounds, meets_searches, meets_seed}
+use Rattle.roster_request.proofs.NumberLemmas.{meets_from, meets_keep, meets_nodes, meets_rounds, meets_searches, meets_seconds, meets_seed}
 use Rattle.roster_request.proofs.NurseLemmas.{meets_day, meets_nurse, meets_shift}
 use Rattle.roster_request.proofs.words.request_of.Goals as goal
 
@@ -55,6 +55,10 @@ request_in-requires-clause-nodes g c =
 pub request_in-requires-clause-searches : goal.request_in-requires-clause-searches
 request_in-requires-clause-searches g c =
     holds_of_matches (Meets with_searches HasSearches) (map g.S.AsStr.text c.args.words.now) _ c.in-Ok.matches c.in_ok-program.ensures c.in-Ok.ensures.matches c.in-Ok.ensures.kinds meets_searches
+
+pub request_in-requires-clause-seconds : goal.request_in-requires-clause-seconds
+request_in-requires-clause-seconds g c =
+    holds_of_matches (Meets with_seconds HasSeconds) (map g.S.AsStr.text c.args.words.now) _ c.in-Ok.matches c.in_ok-program.ensures c.in-Ok.ensures.matches c.in-Ok.ensures.kinds meets_seconds
 
 pub request_in-requires-clause-seed : goal.request_in-requires-clause-seed
 request_in-requires-clause-seed g c =

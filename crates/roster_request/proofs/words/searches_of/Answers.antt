@@ -1,35 +1,5 @@
-use Rattle.std.proofs.Common.{◌∙◌, ◌≤◌, ℕ, List, None, Option, Some, arith, codes, inl, inr, subst, sym}
-use Rattle.std.specs.Prelude.{IfSome, IsSomeAnd}
-use Rattle.std.specs.Str.Parse.{ExplainsUnsignedError, HasUnsignedDigitsIfOk, ParsesUnsigned}
-use Rattle.clap.specs.Words.{Row, Text, found_of, rows_of}
-use Rattle.clap.proofs.WalkLemmas.{one_text-rows}
-use Rattle.roster_request.specs.CommandLine.{IsNumberIfGiven, IsNumberOf}
-use Rattle.roster_request.specs.Limits.{most_searches}
-use Rattle.roster_request.proofs.NumberLemmas.{number_read}
+use Rattle.std.proofs.lemmas.Option.{IfSome_then}
 use Rattle.roster_request.proofs.words.searches_of.Goals as goal
-use Rattle.roster_request.proofs.words.searches_of.Goals.{After-get_one}
-
--- a number in the range, or none
-abbrev IsGiven : Text → ℕ → List Row → Option ℕ → Type 0
-IsGiven name most rows o = IsNumberIfGiven name o rows × IfSome o (λ n. n ≤ most)
-
-given_some : (name : Text) (most : ℕ) (rows : List Row) (o : Option ℕ) → IsSomeAnd o (λ n. IsNumberOf name n rows × (n ≤ most)) → IsGiven name most rows o
-given_some name most rows None h = absurd h
-given_some name most rows (Some n) h = h
-
-given : (c : After-get_one) → IsGiven (codes "searches") most_searches (rows_of (found_of c.args.given.now)) c.get_one.result
-given c =
-    let found = found_of c.args.given.now in
-    let name = codes "searches" in
-    elim c.requires [
-      | inl none ↦ subst (IsGiven name most_searches (rows_of found)) (sym (c.get_one.ensures.none (one_text-rows found name ∙ none))) (none, tt)
-      | inr has ↦
-          given_some name most_searches (rows_of found) c.get_one.result
-          (number_read name most_searches (omega arith) found (λ bs r. ParsesUnsigned 32 10 bs r × ExplainsUnsignedError 10 bs r × HasUnsignedDigitsIfOk bs r) (λ t r g. g.0) has c.get_one.result c.get_one.ensures.value)
-    ]
-
-pub returns-clause-searches : goal.returns-clause-searches
-returns-clause-searches c = (given (goal.at.returns-clause-searches c).After-get_one).0
 
 pub returns-clause-range : goal.returns-clause-range
-returns-clause-range c = (given (goal.at.returns-clause-range c).After-get_one).1
+returns-clause-range c = IfSome_then c.number_if_given.result c.number_if_given.ensures.range (λ n within. within.1)
