@@ -1,6 +1,7 @@
 -- A run that raises a lower bound by branchings: the lines so far are sent.
 use Rattle.std.proofs.Common.{◌≡◌, ◌∙◌, ◌+◌, ◌<◌, ◌≤◌, ◌⊎◌, ℕ, List, [], ◌∷◌, ◌++◌, Option, ap, arith, inl, inr, length, refl, subst, sym}
-use Rattle.std.proofs.lemmas.List.Elements.{All-append, All-cons, All-nil, All-weaker}
+use Rattle.std.specs.List.{All}
+use Rattle.std.proofs.lemmas.List.Elements.{All-append, All-cons, All-contains, All-head, All-nil, All-weaker}
 use Rattle.roster_text.specs.declared.fault.WriteFault.{WriteFault}
 use Rattle.roster_text.specs.Io.{BreaksIn, Sends, StopsAt, Watched, saturated, sent_of}
 use Rattle.roster_text.proofs.Texts.{Sends-append, StopsAt-after}
@@ -9,15 +10,25 @@ use Rattle.roster_instance.specs.Rosters.{Rows}
 use Rattle.roster_reports.specs.declared.log_fault.LogFault.{LogFault}
 use Rattle.roster_reports.specs.declared.log_fault.LogFault.TheVariants.{LogFailed}
 use Rattle.roster_bound.specs.declared.effort.Effort.{Effort}
+use Rattle.roster_bound.specs.declared.effort.Raised.{Raised}
 use Rattle.roster_bound.specs.declared.effort.Reached.{Reached}
 use Rattle.roster_bound.specs.BoundLogs.{BoundLine, IsBoundLog, IsRoundBound, bound_line, bound_log_text, last_line, no_line}
+use Rattle.roster_bound.specs.declared.nodes.Node.{Node}
+use Rattle.roster_bound.specs.declared.nodes.Nodes.{Nodes}
+use Rattle.roster_bound.specs.declared.tree.BoundSpace.{BoundSpace}
 use Rattle.roster_bound.specs.BoundRuns.{BoundLogStops, HasReached, RaisesBound}
-use Rattle.roster_bound.specs.Branching.{IsBoundByPrices, IsNodesBound}
+use Rattle.roster_bound.specs.Branching.{IsBoundByPrices, IsFirstLeastAt, IsLeastOf, IsNodesBound, IsRoot}
+use Rattle.roster_bound.specs.Branchings.{AreNoMore, EndsBranching, HasSearched, HasSearchedFor}
+use Rattle.roster_bound.specs.PooledUses.{IsStuck}
+use Rattle.roster_slots.specs.declared.pool.ColumnPool.{ColumnPool}
+use Rattle.roster_timer.specs.Deadlines.{IsLater, Time, time_of}
+use Rattle.roster_timer.specs.declared.deadline.Deadline.{Deadline}
 use Rattle.roster_prices.specs.LowerBounds.{IsLowerBound}
 use Rattle.roster_bound.proofs.BoundLogLaws.{last_holds, last_is, rises_more, text_more}
 use Rattle.roster_bound.proofs.NodeBounds.{bound_of_root}
 use Rattle.roster_bound.proofs.NodeLaws.{bound_of_all}
 use Rattle.roster_bound.proofs.RoundLaws.{branched_lines, counts-branched, counts-later}
+use Rattle.roster_bound.proofs.Times.{searched-more}
 
 -- ---- the root
 
@@ -108,3 +119,72 @@ module _ {W : Type 0} (contents : W → Option (List ℕ)) (c : Meaning) (from :
         stops = subst (λ text. StopsAt contents old new text (length (bound_log_text c given p.lines) + q.sent)) (text_more c given p.lines x) (StopsAt-after contents old mid new (bound_log_text c given p.lines) (bound_line x) q.sent p.sends.writes q.stops);
         counted = ap (λ f. LogFailed (sent_of f)) q.counted ∙ ap LogFailed count;
       }
+
+-- ---- the rounds, and then some branchings, each of which counted a round, unless the time is up
+
+pub record AreBranched {W : Type 0} (contents : W → Option (List ℕ)) (c : Meaning) (from : ℕ) (given : Rows) (rounds branched counted meter : ℕ) (old mid : Watched W) (time : Time) (reached : Reached) : Type 0 where
+  pub by_rounds : ℕ
+  pub has : HasReached contents c from given (record { rounds = rounds; nodes = branched }) counted by_rounds old mid reached
+  pub grows : by_rounds ≤ meter
+  pub searched : HasSearchedFor c time branched by_rounds meter
+
+module _ {W : Type 0} (contents : W → Option (List ℕ)) (c : Meaning) (from : ℕ) (given : Rows) (rounds branched counted meter : ℕ) (old mid : Watched W) (time : Time) (reached : Reached) where
+  -- there is none yet
+  pub branched-none : HasReached contents c from given (record { rounds = rounds; nodes = 0 }) counted meter old mid reached → AreBranched contents c from given rounds 0 counted meter old mid time reached
+  branched-none has = record { by_rounds = meter; has = has; grows = omega arith; searched = inr (omega arith) }
+
+  module _ (p : AreBranched contents c from given rounds branched counted meter old mid time reached) where
+    -- one more
+    module _ (after : ℕ) (now : Time) (later : IsLater time now) (more : meter ≤ after) (searched : HasSearched c now meter after) where
+      pub branched-later : AreBranched contents c from given rounds (branched + 1) counted after old mid now reached
+      branched-later = record {
+        by_rounds = p.by_rounds;
+        has = reached-later contents c from given counted p.by_rounds old (record { rounds = rounds; nodes = branched }) (branched + 1) p.by_rounds mid reached (omega arith) (omega arith) p.has;
+        grows = omega (arith, p.grows, more);
+        searched = searched-more c branched p.by_rounds meter after time now later p.searched searched;
+      }
+
+      pub branched-raised : (sent bound : ℕ) (new : Watched W) → reached.bound < bound → IsNodesBound c from given bound → Sends contents mid new reached.sent sent (bound_line (record { round = rounds + branched + 1; bound = bound }))
+          → AreBranched contents c from given rounds (branched + 1) counted after old new now (record { bound = bound; sent = sent })
+      branched-raised sent bound new above least sends = record {
+        by_rounds = p.by_rounds;
+        has = reached-raised contents c from given counted p.by_rounds old rounds branched sent bound p.by_rounds mid new reached (omega arith) p.has above least sends;
+        grows = omega (arith, p.grows, more);
+        searched = searched-more c branched p.by_rounds meter after time now later p.searched searched;
+      }
+
+    -- there are no more
+    pub branched-end : {K T : Type 0} (branchings after : ℕ) (deadline : Deadline K) (space : BoundSpace T) → branched ≤ branchings → meter ≤ after → AreNoMore c given branchings (time_of deadline) space.nodes space.bounds.pool reached.bound p.by_rounds after
+        → EndsBranching contents c from given deadline space counted after old mid (record { bound = reached.bound; effort = record { rounds = rounds; nodes = branchings } })
+    branched-end branchings after deadline space few more no_more = record {
+      counted_by_rounds = p.by_rounds;
+      raises = reached-end contents c from given counted p.by_rounds old (record { rounds = rounds; nodes = branchings }) mid reached
+          (reached-later contents c from given counted p.by_rounds old (record { rounds = rounds; nodes = branched }) branchings p.by_rounds mid reached few (omega arith) p.has);
+      grows = omega (arith, p.grows, more);
+      no_more = no_more;
+    }
+
+-- an answer by its parts
+pub raised_is : (raised : Raised) (bound : ℕ) (effort : Effort) → raised.bound ≡ bound → raised.effort ≡ effort → record { bound = bound; effort = effort } ≡ raised
+raised_is raised bound effort bound_is effort_is = sym (λ i. record { bound = bound_is i; effort = effort_is i })
+
+-- the same run, by what was counted in the end
+pub raises-end : {W K T : Type 0} (contents : W → Option (List ℕ)) (c : Meaning) (from : ℕ) (given : Rows) (deadline : Deadline K) (space : BoundSpace T) (counted counted_after : ℕ) (old new : Watched W) (raised : Raised)
+    → EndsBranching contents c from given deadline space counted counted_after old new raised → RaisesBound contents c from given raised.effort counted counted_after old new raised.bound
+raises-end contents c from given deadline space counted counted_after old new raised p =
+    let r = p.raises in
+    record { lines = r.lines; is_log = r.is_log; rounds = counts-later c from given raised.effort.rounds counted p.counted_by_rounds counted_after p.grows r.lines r.rounds; writes = r.writes; bound_is = r.bound_is }
+
+-- ---- the least of the nodes' bounds
+
+-- there is one alone
+pub least_within : (nodes : List Node) (bound most : ℕ) → IsLeastOf bound nodes → bound ≤ most → (other : ℕ) → IsLeastOf other nodes → other ≤ most
+least_within nodes bound most p few other q = omega (arith, few, p.bound_is, All-contains (λ (x : Node). other ≤ x.bound) nodes p.one q.all p.here)
+
+pub least_of_root : (nodes : List Node) (bound : ℕ) → IsRoot bound nodes → (other : ℕ) → IsLeastOf other nodes → other ≤ bound
+least_of_root nodes bound p other q = omega (arith, p.bound_is, All-head (λ (x : Node). other ≤ x.bound) p.node [] (subst (All (λ (x : Node). other ≤ x.bound)) p.only q.all))
+
+-- ---- a node that can't be branched
+
+pub stuck_now : (c : Meaning) (old now : Nodes) (pool : ColumnPool) → IsStuck c old now pool → IsStuck c now now pool
+stuck_now c old now pool p = record { same = refl; at = p.at; least = subst (λ nodes. IsFirstLeastAt nodes p.at) (sym p.same) p.least; undecided = p.undecided }

@@ -9,3 +9,4 @@ pub mod WholePoints
 pub mod BoundLogLaws
 pub mod RoundLaws
 pub mod BranchingLaws
+pub mod Times

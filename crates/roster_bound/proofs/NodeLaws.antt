@@ -12,6 +12,7 @@ use Rattle.roster_instance.specs.Rosters.{Rows, choice_on, row_of}
 use Rattle.roster_prices.specs.declared.decisions.Decision.{Decision}
 use Rattle.roster_bound.specs.declared.nodes.Node.{Node}
 use Rattle.roster_bound.specs.Branching.{AreNodesOf, AreChildrenOf, IsBoundByPrices, IsFirstLeastAt, IsLeastOf, IsPriced, IsRoot}
+use Rattle.roster_bound.specs.Branchings.{IsBelowAt, IsLeastBelow}
 use Rattle.roster_prices.specs.Nodes.{IsLowerBoundIn, is_as_decided, is_in_node, other_way}
 use Rattle.roster_prices.specs.LowerBounds.{IsLowerBound}
 
@@ -293,3 +294,7 @@ least_of nodes at read p reads =
       here = (at, p.within, p.here);
       bound_is = ap (λ (z : Node). z.bound) same;
     }
+
+-- if the least bound is below a total, so is that of this node
+pub below_at : (nodes : List Node) (at total : ℕ) → IsFirstLeastAt nodes at → IsLeastBelow nodes total → IsBelowAt nodes at total
+below_at nodes at total p below read here = below read.bound (least_of nodes at read p (sym here))

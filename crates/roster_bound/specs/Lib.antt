@@ -4,3 +4,4 @@ pub mod BoundLogs
 pub mod Rounds
 pub mod BoundRuns
 pub mod PooledUses
+pub mod Branchings

@@ -7,6 +7,7 @@ ghost use Rattle.roster_bound.specs.Branching.{AreChildrenOf};
 ghost use Rattle.roster_bound.specs.PooledUses.{AgreeOn, AllAgree, HasNoDecision, IsUsed};
 ghost use Rattle.roster_slots.specs.ColumnPool.{FitsPool, pooled_slot};
 ghost use Rattle.roster_prices.specs.Workspaces.{FitsBound};
+ghost use Rattle.roster_timer.specs.Deadlines.{IsLater, time_of};
 
 use crate::nodes::{Children, Node};
 use crate::pooled::move_in_node;
@@ -15,6 +16,8 @@ use roster_instance::{Case, Choice, Shift, Skill};
 use roster_offers::SearchesRows;
 use roster_prices::{BoundWorkspace, Decision, value_by_pooled_rows};
 use roster_slots::{ColumnPool, FINE_PER_POINT, OFF_SLOT, ROWS_PER_NURSE};
+use roster_timer::Deadline;
+use std::time::Clock;
 
 /// A branching decision, and how many uses a nurse's rows have with it or without it, whichever is less.
 #[derive(Clone, Copy, Default)]
@@ -48,17 +51,19 @@ const LEAST_GAIN: u64 = FINE_PER_POINT as u64 / 100;
 /// The children of a node by the decision that promises most by the pooled rows: of those that split the uses
 /// of a nurse's rows most evenly, the one for which the product of the children's gains is greatest. None
 /// only if all used rows of each nurse are alike, or if the node can take no more decisions. Values above the
-/// cap aren't aimed at.
-pub(crate) fn choose<T: SearchesRows>(
+/// cap aren't aimed at. Once the time is up, the best decision of those that were tried so far is taken.
+pub(crate) fn choose<T: SearchesRows, K: Clock + Copy>(
     case: &Case,
     node: &Node,
     cap: u64,
+    deadline: &mut Deadline<K>,
     bounds: &mut BoundWorkspace<T>,
     uses: &mut [u32],
 ) -> Option<Children>
     requires { FitsBound case.now bounds.old }
     ensures two { IfSome result (λ two. AreChildrenOf node.now two.with two.without) }
     ensures none { IfNone result (HasNoDecision case.now node.now bounds.new.pool uses.new) }
+    ensures later { IsLater (time_of deadline.old) (time_of deadline.new) }
     ensures fits { FitsBound case.now bounds.new }
 {
     let decisions = node.decisions.as_slice();
@@ -72,6 +77,9 @@ pub(crate) fn choose<T: SearchesRows>(
     let mut chosen = None;
     let mut most = 0;
     for candidate in tried.as_slice() {
+        if most > 0 && deadline.left_after_step() == 0 {
+            break;
+        }
         let Some(two) = node.branched_by(candidate.decision) else {
             return None;
         };

@@ -7,6 +7,7 @@ ghost use Rattle.roster_rules.specs.Penalties.{penalty};
 ghost use Rattle.roster_laws.specs.Greatest.{extensions_in, greatest_extension_count};
 ghost use Rattle.roster_bound.specs.BoundLogs.{rounds_alone, rounds_of};
 ghost use Rattle.roster_bound.specs.BoundRuns.{BoundLogStops, HasReached, IsMadeOf, RaisesBound};
+ghost use Rattle.roster_bound.specs.Branchings.{EndsBranching};
 ghost use Rattle.roster_timer.specs.Deadlines.{is_up, time_of};
 ghost use Rattle.roster_bound.specs.NodeCapacity.{nodes_capacity};
 ghost use Rattle.roster_bound.specs.Rounds.{most_barren, sum_by};
@@ -58,6 +59,8 @@ pub fn raise_bound<W: Write, T: SearchesRows, K: Clock + Copy>(
         held.now.roster raised.effort meter.old meter.new log.old log.new raised.bound) }
     ensures made { IfOk result (λ raised. IsMadeOf task.old.effort task.new.deadline
         raised.effort) }
+    ensures branched { IfOk result (EndsBranching W.contents held.now.case task.old.from
+        held.now.roster task.new.deadline space.new meter.old meter.new log.old log.new) }
     ensures err { IfErr result (BoundLogStops W.contents held.now.case task.old.from
         held.now.roster task.old.effort log.old log.new) }
     ensures below { IfOk result (λ raised. IsLowerBound held.now.case task.old.from
@@ -92,10 +95,10 @@ fn raise_below<W: Write, T: SearchesRows, K: Clock + Copy>(
     requires fits { FitsBound top.now.base.now.case.now space.old.bounds }
     requires room { meter.old + extensions_in top.now.base.now.case.now (rounds_of effort)
         ≤ greatest_u64 }
-    ensures ok { IfOk result (λ raised. RaisesBound W.contents top.now.base.now.case.now
-        top.now.base.now.from top.now.base.now.given.now raised.effort meter.old meter.new
-        log.old log.new raised.bound) }
     ensures made { IfOk result (λ raised. IsMadeOf effort deadline.new raised.effort) }
+    ensures branched { IfOk result (EndsBranching W.contents top.now.base.now.case.now
+        top.now.base.now.from top.now.base.now.given.now deadline.new space.new meter.old
+        meter.new log.old log.new) }
     ensures err { IfErr result (BoundLogStops W.contents top.now.base.now.case.now
         top.now.base.now.from top.now.base.now.given.now effort log.old log.new) }
     ensures below { IfOk result (λ raised. IsLowerBound top.now.base.now.case.now

@@ -1,15 +1,17 @@
 //! A lower bound for all rosters as the least over the nodes of a branching tree.
 
-ghost use Rattle.std.specs.Prelude.{◌≡◌, ◌+◌, ◌*◌, ◌<◌, ◌≤◌, ◌⊎◌, IfNone, IfOk, false, length, vec_capacity, vec_len};
+ghost use Rattle.std.specs.Prelude.{◌≡◌, ◌+◌, ◌*◌, ◌<◌, ◌≤◌, ◌⊎◌, IfNone, IfOk, IfSome, false, length, true, vec_capacity, vec_len};
 ghost use Rattle.roster_bundle.specs.Limits.{greatest_u64};
 ghost use Rattle.roster_instance.specs.Meaning.{nurse_count};
 ghost use Rattle.roster_laws.specs.Greatest.{extensions_in, greatest_extension_count};
 ghost use Rattle.roster_bound.specs.BoundLogs.{node_rounds};
 ghost use Rattle.roster_bound.specs.NodeCapacity.{nodes_capacity};
 ghost use Rattle.roster_bound.specs.Branching.{AreNodesOf, IsBoundByPrices, IsPriced};
+ghost use Rattle.roster_bound.specs.Branchings.{HasSearched, IsBelowAt, IsLeastBelow};
 ghost use Rattle.roster_bound.specs.PooledUses.{IsStuck, IsUndecidedAt};
 ghost use Rattle.roster_prices.specs.Nodes.{IsLowerBoundIn};
-ghost use Rattle.roster_prices.specs.Workspaces.{FitsBound};
+ghost use Rattle.roster_prices.specs.Workspaces.{CountsRound, FitsBound};
+ghost use Rattle.roster_timer.specs.Deadlines.{IsLater, time_of};
 
 use crate::bounds::lower_bound_in;
 use crate::choosing::choose;
@@ -77,6 +79,7 @@ pub(crate) fn branch_least<T: SearchesRows, K: Clock + Copy>(
     requires fits { FitsBound upper.now.base.now.case.now space.old.bounds }
     requires nodes { AreNodesOf upper.now.base.now.case.now upper.now.base.now.from
         upper.now.base.now.given.now space.old.nodes.items.items }
+    requires below { IsLeastBelow space.old.nodes.items.items upper.now.total }
     requires room { meter.old + extensions_in upper.now.base.now.case.now (2 * node_rounds)
         ≤ greatest_u64 }
     ensures nodes { AreNodesOf upper.now.base.now.case.now upper.now.base.now.from
@@ -84,8 +87,12 @@ pub(crate) fn branch_least<T: SearchesRows, K: Clock + Copy>(
     ensures useless { result ≡ false → (vec_capacity space.old.nodes.items ≤ vec_len
         space.old.nodes.items) ⊎ IsStuck upper.now.base.now.case.now space.old.nodes
         space.new.nodes space.new.bounds.pool }
+    ensures searched { result ≡ true → HasSearched upper.now.base.now.case.now
+        (time_of deadline.new) meter.old meter.new }
+    ensures few { length space.new.nodes.items.items
+        ≤ length space.old.nodes.items.items + 1 }
     ensures same_nodes { nodes_capacity space.new.nodes ≡ nodes_capacity space.old.nodes }
-    ensures ends { deadline.new.ends ≡ deadline.old.ends }
+    ensures later { IsLater (time_of deadline.old) (time_of deadline.new) }
     ensures fits { FitsBound upper.now.base.now.case.now space.new.bounds }
     ensures grows { meter.old ≤ meter.new }
     ensures counted { meter.new ≤ meter.old + extensions_in upper.now.base.now.case.now
@@ -114,6 +121,7 @@ fn branch_at<T: SearchesRows, K: Clock + Copy>(
     meter: &mut Meter,
 ) -> Option<bool>
     requires at { at < length space.old.nodes.items.items }
+    requires some { 0 < rounds }
     requires rounds { rounds ≤ node_rounds }
     requires fits { FitsBound upper.now.base.now.case.now space.old.bounds }
     requires nodes { AreNodesOf upper.now.base.now.case.now upper.now.base.now.from
@@ -128,8 +136,13 @@ fn branch_at<T: SearchesRows, K: Clock + Copy>(
         space.new.bounds.pool at) }
     ensures full { result ≡ Some false → vec_capacity space.old.nodes.items ≤ vec_len
         space.old.nodes.items }
+    ensures searched { IsBelowAt space.old.nodes.items.items at upper.now.total → IfSome result
+        (λ done. HasSearched upper.now.base.now.case.now (time_of deadline.new) meter.old
+        meter.new) }
+    ensures few { length space.new.nodes.items.items
+        ≤ length space.old.nodes.items.items + 1 }
     ensures same_nodes { nodes_capacity space.new.nodes ≡ nodes_capacity space.old.nodes }
-    ensures ends { deadline.new.ends ≡ deadline.old.ends }
+    ensures later { IsLater (time_of deadline.old) (time_of deadline.new) }
     ensures fits { FitsBound upper.now.base.now.case.now space.new.bounds }
     ensures grows { meter.old ≤ meter.new }
     ensures counted { meter.new ≤ meter.old + extensions_in upper.now.base.now.case.now
@@ -138,7 +151,8 @@ fn branch_at<T: SearchesRows, K: Clock + Copy>(
     let case = upper.base.case;
     let cap = target_cap(case, Some(upper.total));
     let BoundSpace { bounds, nodes } = space;
-    let mut two = choose(case, &nodes.items[at], cap, bounds, &mut nodes.uses)?;
+    let uses = &mut nodes.uses;
+    let mut two = choose(case, &nodes.items[at], cap, deadline, bounds, uses)?;
     raise_node(upper, &mut two.with, rounds, deadline, bounds, meter);
     raise_node(upper, &mut two.without, rounds, deadline, bounds, meter);
     Some(nodes.put_children(at, two))
@@ -156,14 +170,17 @@ fn raise_at<T: SearchesRows, K: Clock + Copy>(
     requires fits { FitsBound upper.now.base.now.case.now space.old.bounds }
     requires nodes { AreNodesOf upper.now.base.now.case.now upper.now.base.now.from
         upper.now.base.now.given.now space.old.nodes.items.items }
+    requires below { IsBelowAt space.old.nodes.items.items at upper.now.total }
     requires room { meter.old + extensions_in upper.now.base.now.case.now node_rounds
         ≤ greatest_u64 }
     ensures nodes { AreNodesOf upper.now.base.now.case.now upper.now.base.now.from
         upper.now.base.now.given.now space.new.nodes.items.items }
     ensures count { length space.new.nodes.items.items ≡ length space.old.nodes.items.items }
     ensures same { result ≡ false → space.new.nodes.items.items ≡ space.old.nodes.items.items }
+    ensures searched { HasSearched upper.now.base.now.case.now (time_of deadline.new) meter.old
+        meter.new }
     ensures same_nodes { nodes_capacity space.new.nodes ≡ nodes_capacity space.old.nodes }
-    ensures ends { deadline.new.ends ≡ deadline.old.ends }
+    ensures later { IsLater (time_of deadline.old) (time_of deadline.new) }
     ensures fits { FitsBound upper.now.base.now.case.now space.new.bounds }
     ensures grows { meter.old ≤ meter.new }
     ensures counted { meter.new ≤ meter.old + extensions_in upper.now.base.now.case.now
@@ -198,18 +215,32 @@ fn raise_node<T: SearchesRows, K: Clock + Copy>(
     ensures priced { IsPriced upper.now.base.now.case.now upper.now.base.now.from
         upper.now.base.now.given.now node.new }
     ensures rises { node.old.bound ≤ node.new.bound }
-    ensures ends { deadline.new.ends ≡ deadline.old.ends }
+    ensures searched { 0 < rounds → node.old.bound < upper.now.total → HasSearched
+        upper.now.base.now.case.now (time_of deadline.new) meter.old meter.new }
+    ensures later { IsLater (time_of deadline.old) (time_of deadline.new) }
     ensures fits { FitsBound upper.now.base.now.case.now bounds.new }
     ensures grows { meter.old ≤ meter.new }
     ensures counted { meter.new ≤ meter.old + extensions_in upper.now.base.now.case.now rounds }
 {
     let case = upper.base.case;
     let cap = target_cap(case, Some(upper.total));
-    let decisions = node.decisions.as_slice();
-    move_in_node(case, decisions, cap, ROUNDS_BEFORE, bounds, &mut []);
+    if deadline.left_after_step() == 0 {
+        return;
+    }
+    move_in_node(
+        case,
+        node.decisions.as_slice(),
+        cap,
+        ROUNDS_BEFORE,
+        bounds,
+        &mut [],
+    );
     for made in 0..rounds {
-        if node.bound >= upper.total || deadline.left() == 0 {
-            break;
+        if node.bound >= upper.total {
+            return;
+        }
+        if deadline.left_after_step() == 0 {
+            return;
         }
         let bound = round_in_node(upper.base, node.decisions.as_slice(), bounds, meter);
         node.bound = node.bound.max(bound);
@@ -232,9 +263,7 @@ fn round_in_node<T: SearchesRows>(
         result }
     ensures by_prices { IsBoundByPrices base.now.case.now base.now.from base.now.given.now node.now
         result }
-    ensures grows { meter.old ≤ meter.new }
-    ensures counted { meter.new ≤ meter.old + nurse_count base.now.case.now
-        * greatest_extension_count base.now.case.now }
+    ensures counted { CountsRound base.now.case.now meter.old meter.new }
     ensures fits { FitsBound base.now.case.now workspace.new }
 {
     workspace.dual_prices.keep_most();

@@ -302,7 +302,8 @@ fn asks_for_run(alloc: Global, words: &[&str], (rounds, from): (u16, u16), files
         command,
         files: given,
     } = request;
-    matches!(command, Command::Improve { rounds: some, from: first, keep: 0 } if some == rounds && first == from)
+    matches!(command, Command::Improve { rounds: some, from: first, keep: 0 }
+        if some == rounds && first == from)
         && given.iter().map(|it| it.as_str()).eq(files.iter().copied())
 }
 
@@ -312,7 +313,8 @@ fn asks_for_bound(alloc: Global, words: &[&str], (rounds, from, keep): (u16, u16
     let Ok(request) = request_of(alloc, words) else {
         return false;
     };
-    matches!(request.command, Command::Bound { rounds: some, nodes: 0, seconds: None, from: first, keep: kept }
+    matches!(request.command,
+        Command::Bound { rounds: some, nodes: 0, seconds: None, from: first, keep: kept }
         if some == rounds && first == from && kept == keep)
 }
 
@@ -325,7 +327,8 @@ fn asks_for_searches(alloc: Global, words: &[&str], (searches, seed, from, alone
     let Ok(request) = request_of(alloc, words) else {
         return false;
     };
-    matches!(request.command, Command::Polish { searches: some, seconds: None, seed: begin, from: first, kicks_alone, keep: 0 }
+    matches!(request.command,
+        Command::Polish { searches: some, seconds: None, seed: begin, from: first, kicks_alone, keep: 0 }
         if some == searches && begin == seed && first == from && kicks_alone == alone)
 }
 

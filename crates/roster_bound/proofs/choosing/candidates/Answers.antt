@@ -1,6 +1,5 @@
-use Rattle.std.proofs.Common.{◌≡◌, ◌∙◌, ℕ, ◌<◌, ap, arith, below_more, length}
+use Rattle.std.proofs.Common.{ℕ, ◌<◌, ap, arith, below_more, length}
 use Rattle.arrayvec.specs.ArrayVec.{ArrayVec}
-use Rattle.roster_instance.specs.Meaning.{day_count}
 use Rattle.roster_bound.specs.declared.choosing.Candidate.{Candidate}
 use Rattle.roster_bound.specs.PooledUses.{AgreeOn}
 use Rattle.roster_bound.proofs.choosing.candidates.Goals as goal

@@ -2,7 +2,7 @@ use Rattle.std.proofs.Common.{◌≡◌, ◌++◌, ◌∷◌, [], ℕ, Bool, Lis
 use Rattle.std.proofs.lemmas.List.{with_items_is}
 use Rattle.roster_bound.specs.declared.nodes.Node.{Node}
 use Rattle.roster_bound.specs.Branching.{AreNodesOf}
-use Rattle.roster_bound.specs.PooledUses.{HasNoDecision, IsUndecidedAt}
+use Rattle.roster_bound.specs.PooledUses.{HasNoDecision}
 use Rattle.roster_bound.proofs.NodeLaws.{branched, child_bounds, child_prices}
 use Rattle.roster_bound.proofs.tree.branch_at.Goals as goal
 

@@ -1,4 +1,6 @@
-use Rattle.std.proofs.Common.{◌≡◌, ◌+◌, ◌≤◌}
+use Rattle.std.proofs.Common.{◌≡◌, ◌+◌, ◌*◌, ◌≤◌}
+use Rattle.roster_instance.specs.Meaning.{day_count, nurse_count}
+use Rattle.roster_timer.specs.Deadlines.{IsLater, time_of}
 use Rattle.roster_laws.specs.Greatest.{extensions_in}
 use Rattle.roster_bound.specs.Branching.{IsPriced}
 use Rattle.roster_prices.specs.Nodes.{IsLowerBoundIn}
@@ -12,7 +14,8 @@ invariant-loop-made g l = record {
   priced : IsPriced l.upper.base.now.case.now l.upper.base.now.from l.upper.base.now.given.now l.node;
   rises : l.fn.node.bound ≤ l.node.bound;
   fits : FitsBound l.upper.base.now.case.now l.bounds;
-  ends : l.deadline.ends ≡ l.fn.deadline.ends;
-  grows : l.fn.meter ≤ l.meter;
+  later : IsLater (time_of l.fn.deadline) (time_of l.deadline);
+  none : l.made ≡ 0 → l.node.bound ≡ l.fn.node.bound;
+  made : l.fn.meter + l.made * (nurse_count l.upper.base.now.case.now * day_count l.upper.base.now.case.now) ≤ l.meter;
   counted : l.meter ≤ l.fn.meter + extensions_in l.upper.base.now.case.now l.made;
 }
