@@ -1,6 +1,13 @@
 -- What a search that lists rows leaves of the memory of its list.
-use Rattle.std.specs.Prelude.{◌≡◌, ◌≤◌, length}
+use Rattle.std.specs.Prelude.{◌≡◌, ℕ, ◌≤◌, length}
 use Rattle.roster_offers.specs.declared.listed.RowList.{RowList}
+
+-- the cost of a row that isn't listed, and the index of its offers
+abbrev pub no_cost : ℕ
+no_cost = 4294967295
+
+abbrev pub no_index : ℕ
+no_index = 255
 
 -- it has capacity for as many rows and days as before, and holds no more rows than that
 pub record KeepsList (old new : RowList) : Type 0 where

@@ -1,8 +1,9 @@
 //! The rows that a search lists, and the walk over the days by which it finds them.
 
-ghost use Rattle.std.specs.Prelude.{◌≡◌, ◌≤◌, IfOk, length};
+ghost use Rattle.std.specs.Prelude.{◌≡◌, ◌+◌, ◌*◌, ◌<◌, ◌≤◌, ◌↔◌, IfOk, IsTrue, length, slice_index_or, slice_set};
+ghost use Rattle.roster_bundle.specs.Limits.{greatest_u64};
 ghost use Rattle.roster_instance.specs.Meaning.{day_count};
-ghost use Rattle.roster_offers.specs.Listed.{KeepsList};
+ghost use Rattle.roster_offers.specs.Listed.{KeepsList, no_cost, no_index};
 
 use roster_instance::Case;
 use roster_state::State;
@@ -80,26 +81,31 @@ impl RowList {
     }
 
     /// Whether no row is listed.
-    pub fn is_empty(&self) -> bool {
+    pub fn is_empty(&self) -> bool
+        ensures { IsTrue result ↔ (self.now.held ≡ 0) }
+    {
         self.held == 0
     }
 
     /// The cost of a listed row; the greatest number past the end.
-    pub fn cost(&self, row: usize) -> u32 {
-        if row < self.costs.len() {
-            self.costs[row]
-        } else {
-            u32::MAX
+    pub fn cost(&self, row: usize) -> u32
+        ensures { result ≡ slice_index_or self.now.costs.items row no_cost }
+    {
+        match self.costs.get(row) {
+            Some(cost) => *cost,
+            None => u32::MAX,
         }
     }
 
     /// The index of the offer of a listed row on a day; the greatest number past the end.
-    pub fn index(&self, row: usize, day: usize) -> u8 {
+    pub fn index(&self, row: usize, day: usize) -> u8
+        ensures { row * self.now.days + day ≤ greatest_u64 → result ≡ slice_index_or
+            self.now.indices.items (row * self.now.days + day) no_index }
+    {
         let at = row.saturating_mul(self.days).saturating_add(day);
-        if at < self.indices.len() {
-            self.indices[at]
-        } else {
-            u8::MAX
+        match self.indices.get(at) {
+            Some(index) => *index,
+            None => u8::MAX,
         }
     }
 
@@ -118,12 +124,13 @@ impl RowList {
     }
 
     /// A day of the partial row.
-    pub fn walk_day(&self, day: u16) -> WalkDay {
-        let day = day as usize;
-        if day < self.walk.len() {
-            self.walk[day]
-        } else {
-            WalkDay::default()
+    pub fn walk_day(&self, day: u16) -> WalkDay
+        ensures { (other : WalkDay) → day < length self.now.walk.items → result ≡ slice_index_or
+            self.now.walk.items day other }
+    {
+        match self.walk.get(day as usize) {
+            Some(walk_day) => *walk_day,
+            None => WalkDay::default(),
         }
     }
 
@@ -131,10 +138,10 @@ impl RowList {
     pub fn enter(&mut self, day: u16, walk_day: WalkDay)
         ensures kept { KeepsList self.old self.new }
         ensures held { self.new.held ≡ self.old.held }
+        ensures walk { self.new.walk.items ≡ slice_set self.old.walk.items day walk_day }
     {
-        let day = day as usize;
-        if day < self.walk.len() {
-            self.walk[day] = walk_day;
+        if let Some(here) = self.walk.get_mut(day as usize) {
+            *here = walk_day;
         }
     }
 
