@@ -46,6 +46,9 @@ const NEXT_CHANGE: u32 = 4;
 /// setting the completion bounds anew takes longer than it spares.
 const CLOSE: u32 = 5;
 
+/// The same after an earlier search for the same nurse, by how many points more than the spread that it had.
+const NEXT_CLOSE: u32 = 15;
+
 /// What an earlier search suggests for the next one, in the parts of a point of its scale. Only the time
 /// depends on it.
 #[derive(Clone, Copy)]
@@ -179,7 +182,7 @@ fn plan_by(bounded: &Bounded<'_>, guess: Option<Guess>, meter: &mut Meter) -> Tr
             rates: within_range(guess.rates, scale),
             by: (scale + scale / 2).max(NEXT_CHANGE),
             trials: trials_from_same(bounded.search.case),
-            close: guess.spread.saturating_add(scale * CLOSE),
+            close: guess.spread.saturating_add(scale * NEXT_CLOSE),
         },
         Some(guess) => TrialPlan {
             rates: within_range(guess.rates, scale),
