@@ -58,6 +58,7 @@ fn report_raised_bound<'a, T: SearchesRows, K: Clock + Copy, Out: Write, Log: Wr
     // is up.
     ensures searched { OnOk result (AreSearched instance.case task.old.from instance.roster
         task.old.effort.rounds meter.old meter.new ⊎ (is_up (time_of task.new.deadline) ≡ true)) }
+    ensures ends { task.new.deadline.ends ≡ task.old.deadline.ends }
 {
     let held = hold(alloc, instance)?;
     let Ok(mut space) = BoundSpace::<T>::for_case(alloc, held.case(), task.effort.nodes) else {

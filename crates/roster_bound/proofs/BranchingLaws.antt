@@ -1,4 +1,5 @@
 -- A run that raises a lower bound by branchings: the lines so far are sent.
+use Rattle.std.specs.Prelude.{vec_capacity}
 use Rattle.std.proofs.Common.{◌≡◌, ◌∙◌, ◌+◌, ◌<◌, ◌≤◌, ◌⊎◌, ℕ, List, [], ◌∷◌, ◌++◌, Option, ap, arith, inl, inr, length, refl, subst, sym}
 use Rattle.std.specs.List.{All}
 use Rattle.std.proofs.lemmas.List.Elements.{All-append, All-cons, All-contains, All-head, All-nil, All-weaker}
@@ -18,7 +19,7 @@ use Rattle.roster_bound.specs.declared.nodes.Nodes.{Nodes}
 use Rattle.roster_bound.specs.declared.tree.BoundSpace.{BoundSpace}
 use Rattle.roster_bound.specs.BoundRuns.{BoundLogStops, HasReached, RaisesBound}
 use Rattle.roster_bound.specs.Branching.{IsBoundByPrices, IsFirstLeastAt, IsLeastOf, IsNodesBound, IsRoot}
-use Rattle.roster_bound.specs.Branchings.{AreNoMore, EndsBranching, HasSearched, HasSearchedFor}
+use Rattle.roster_bound.specs.Branchings.{AreNoMore, EndsBranching, HasSearched, HasSearchedFor, ReachesLeast}
 use Rattle.roster_bound.specs.PooledUses.{IsStuck}
 use Rattle.roster_slots.specs.declared.pool.ColumnPool.{ColumnPool}
 use Rattle.roster_timer.specs.Deadlines.{IsLater, Time, time_of}
@@ -155,13 +156,15 @@ module _ {W : Type 0} (contents : W → Option (List ℕ)) (c : Meaning) (from :
 
     -- there are no more
     pub branched-end : {K T : Type 0} (branchings after : ℕ) (deadline : Deadline K) (space : BoundSpace T) → branched ≤ branchings → meter ≤ after → AreNoMore c given branchings (time_of deadline) space.nodes space.bounds.pool reached.bound p.by_rounds after
+        → (branchings < vec_capacity space.nodes.items → ReachesLeast space.nodes.items.items reached.bound)
         → EndsBranching contents c from given deadline space counted after old mid (record { bound = reached.bound; effort = record { rounds = rounds; nodes = branchings } })
-    branched-end branchings after deadline space few more no_more = record {
+    branched-end branchings after deadline space few more no_more least = record {
       counted_by_rounds = p.by_rounds;
       raises = reached-end contents c from given counted p.by_rounds old (record { rounds = rounds; nodes = branchings }) mid reached
           (reached-later contents c from given counted p.by_rounds old (record { rounds = rounds; nodes = branched }) branchings p.by_rounds mid reached few (omega arith) p.has);
       grows = omega (arith, p.grows, more);
       no_more = no_more;
+      least = λ some. least;
     }
 
 -- an answer by its parts
@@ -178,10 +181,10 @@ raises-end contents c from given deadline space counted counted_after old new ra
 -- ---- the least of the nodes' bounds
 
 -- there is one alone
-pub least_within : (nodes : List Node) (bound most : ℕ) → IsLeastOf bound nodes → bound ≤ most → (other : ℕ) → IsLeastOf other nodes → other ≤ most
+pub least_within : (nodes : List Node) (bound most : ℕ) → IsLeastOf bound nodes → bound ≤ most → ReachesLeast nodes most
 least_within nodes bound most p few other q = omega (arith, few, p.bound_is, All-contains (λ (x : Node). other ≤ x.bound) nodes p.one q.all p.here)
 
-pub least_of_root : (nodes : List Node) (bound : ℕ) → IsRoot bound nodes → (other : ℕ) → IsLeastOf other nodes → other ≤ bound
+pub least_of_root : (nodes : List Node) (bound : ℕ) → IsRoot bound nodes → ReachesLeast nodes bound
 least_of_root nodes bound p other q = omega (arith, p.bound_is, All-head (λ (x : Node). other ≤ x.bound) p.node [] (subst (All (λ (x : Node). other ≤ x.bound)) p.only q.all))
 
 -- ---- a node that can't be branched

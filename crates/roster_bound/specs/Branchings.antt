@@ -23,6 +23,10 @@ IsBelowAt nodes at total = (node : Node) → slice_index_or nodes at node ≡ no
 abbrev pub IsLeastBelow : List Node → (total : ℕ) → Type 0
 IsLeastBelow nodes total = (bound : ℕ) → IsLeastOf bound nodes → bound < total
 
+-- this bound is no less than the least of the nodes' bounds
+abbrev pub ReachesLeast : List Node → (bound : ℕ) → Type 0
+ReachesLeast nodes bound = (least : ℕ) → IsLeastOf least nodes → least ≤ bound
+
 -- this many rounds were counted, an extension for each nurse and day in each of them, or the time is up
 abbrev pub HasSearchedFor : Meaning → Time → (rounds old new : ℕ) → Type 0
 HasSearchedFor c time rounds old new =
@@ -43,8 +47,9 @@ AreNoMore c given branchings time nodes pool bound old new =
     ⊎ IsStuck c nodes nodes pool
     ⊎ HasSearchedFor c time branchings old new
 
--- the log of some lower bounds went out, and the answer is the last of them; and there are no more branchings
--- after the rounds, whose searches were counted by then
+-- The log of some lower bounds went out, and the answer is the last of them; and there are no more branchings
+-- after the rounds, whose searches were counted by then. If there was capacity for the branchings that were
+-- asked for, the answer is no less than the least of the nodes' bounds.
 pub record EndsBranching {W K T : Type 0} (contents : W → Option (List ℕ)) (c : Meaning) (from : ℕ)
     (given : Rows) (deadline : Deadline K) (space : BoundSpace T) (counted counted_after : ℕ)
     (old new : Watched W) (raised : Raised) : Type 0 where
@@ -53,3 +58,5 @@ pub record EndsBranching {W K T : Type 0} (contents : W → Option (List ℕ)) (
   pub grows : counted_by_rounds ≤ counted_after
   pub no_more : AreNoMore c given raised.effort.nodes (time_of deadline) space.nodes space.bounds.pool
       raised.bound counted_by_rounds counted_after
+  pub least : 0 < raised.effort.nodes → raised.effort.nodes < vec_capacity space.nodes.items
+      → ReachesLeast space.nodes.items.items raised.bound

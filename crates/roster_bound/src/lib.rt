@@ -5,7 +5,8 @@
 //! `lower_bound` promises to return it, and `raise_bound` that each lower bound that its rounds report is
 //! that of some dual prices, and no less than the first round's, and that each one that its branchings report
 //! is the least of such bounds over nodes that contain all rosters. `specs/Rounds.antt` says when a round is
-//! left out, and `specs/BoundRuns.antt` what a run leaves.
+//! left out, `specs/BoundRuns.antt` what a run leaves, and `specs/Branchings.antt` when it makes no more
+//! branchings.
 //!
 //! The lower bound for the rosters of a node is defined in `specs/Nodes.antt` there, and nodes that contain
 //! all rosters in `specs/Branching.antt`. `choosing` takes the next branching decision, by how dual prices

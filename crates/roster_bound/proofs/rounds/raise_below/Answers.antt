@@ -1,4 +1,4 @@
-use Rattle.std.proofs.Common.{◌≡◌, ◌∙◌, ◌+◌, ◌≤◌, ◌⊎◌, ap, arith, inl, inr, length, refl, subst, sym}
+use Rattle.std.proofs.Common.{◌≡◌, ◌∙◌, ◌+◌, ◌<◌, ◌≤◌, ◌⊎◌, ap, arith, inl, inr, length, refl, subst, sym}
 use Rattle.std.specs.Prelude.{vec_capacity, vec_len}
 use Rattle.std.proofs.lemmas.Bool.{true≢false}
 use Rattle.std.proofs.lemmas.Result.{err_from_is_err_and}
@@ -9,7 +9,7 @@ use Rattle.roster_bound.specs.Branching.{IsNodesBound}
 use Rattle.roster_bound.proofs.BranchingLaws.{branched-end, raised_is, branched-later, branched-none, branched-raised, branched_breaks, least_of_root, least_within, reached_by_prices, stops-later}
 use Rattle.roster_bound.proofs.Counted.{branching_counted, branching_fits_meter, branching_within, branchings_within}
 use Rattle.roster_bound.proofs.NodeLaws.{bound_of_all, root_is, some_node}
-use Rattle.roster_bound.specs.Branchings.{AreNoMore, EndsBranching, HasSearchedFor}
+use Rattle.roster_bound.specs.Branchings.{AreNoMore, EndsBranching, HasSearchedFor, ReachesLeast}
 use Rattle.roster_bound.specs.NodeCapacity.{NodesCapacity}
 use Rattle.roster_bound.specs.PooledUses.{IsStuck}
 use Rattle.roster_bound.specs.declared.nodes.Nodes.{Nodes}
@@ -186,7 +186,8 @@ returns-then-reached-top-clause-branched g c =
     subst (EndsBranching g.W.Write.contents b.case.now b.from b.given.now l.deadline l.space c.args.meter.now l.meter c.args.log.now l.log)
     (raised_is c.raised_by-then-reached-top.result l.reached.bound (record { rounds = c.args.effort.rounds; nodes = c.args.effort.nodes }) c.raised_by-then-reached-top.ensures.bound c.raised_by-then-reached-top.ensures.effort)
     (branched-end g.W.Write.contents b.case.now b.from b.given.now c.args.effort.rounds l.branched c.args.meter.now l.meter c.args.log.now l.log (time_of l.deadline) l.reached
-    l.invariant.branched c.args.effort.nodes l.meter l.deadline l.space (omega (arith, c.loop-branched-test.true)) (omega arith) (inl (omega (arith, c.if-reached-top.true, c.args.top.now.total_is))))
+    l.invariant.branched c.args.effort.nodes l.meter l.deadline l.space (omega (arith, c.loop-branched-test.true)) (omega arith) (inl (omega (arith, c.if-reached-top.true, c.args.top.now.total_is)))
+    (λ capacity. l.invariant.least))
 
 pub returns-then-left-eq0-clause-branched : goal.returns-then-left-eq0-clause-branched
 returns-then-left-eq0-clause-branched g c =
@@ -195,7 +196,8 @@ returns-then-left-eq0-clause-branched g c =
     subst (EndsBranching g.W.Write.contents b.case.now b.from b.given.now c.left.new.self l.space c.args.meter.now l.meter c.args.log.now l.log)
     (raised_is c.raised_by-then-left-eq0.result l.reached.bound (record { rounds = c.args.effort.rounds; nodes = l.branched }) c.raised_by-then-left-eq0.ensures.bound c.raised_by-then-left-eq0.ensures.effort)
     (branched-end g.W.Write.contents b.case.now b.from b.given.now c.args.effort.rounds l.branched c.args.meter.now l.meter c.args.log.now l.log (time_of l.deadline) l.reached
-    l.invariant.branched l.branched l.meter c.left.new.self l.space (omega arith) (omega arith) (inr (inr (inr (inl (c.left.ensures.up.0 c.if-left-eq0.true))))))
+    l.invariant.branched l.branched l.meter c.left.new.self l.space (omega arith) (omega arith) (inr (inr (inr (inl (c.left.ensures.up.0 c.if-left-eq0.true)))))
+    (λ capacity. l.invariant.least))
 
 pub returns-then-not-is_branched-clause-branched : goal.returns-then-not-is_branched-clause-branched
 returns-then-not-is_branched-clause-branched g c =
@@ -212,10 +214,15 @@ returns-then-not-is_branched-clause-branched g c =
       | inl full ↦ inr (inl (omega (arith, full, capacity, l.invariant.few, c.loop-branched-test.true)))
       | inr stuck ↦ inr (inr (inl (stuck_now b.case.now old nodes pool stuck)))
     ] in
+    let least : c.args.effort.nodes < vec_capacity nodes.items → ReachesLeast nodes.items.items l.reached.bound = λ enough.
+    elim why [
+      | inl full ↦ absurd (omega (arith, enough, full, capacity, l.invariant.few, c.loop-branched-test.true))
+      | inr stuck ↦ subst (λ items. ReachesLeast items l.reached.bound) (sym stuck.same) l.invariant.least
+    ] in
     subst (EndsBranching g.W.Write.contents b.case.now b.from b.given.now by.new.deadline by.new.space c.args.meter.now by.new.meter c.args.log.now l.log)
     (raised_is c.raised_by-then-not-is_branched.result l.reached.bound (record { rounds = c.args.effort.rounds; nodes = c.args.effort.nodes }) c.raised_by-then-not-is_branched.ensures.bound c.raised_by-then-not-is_branched.ensures.effort)
     (branched-end g.W.Write.contents b.case.now b.from b.given.now c.args.effort.rounds l.branched c.args.meter.now l.meter c.args.log.now l.log (time_of l.deadline) l.reached
-    l.invariant.branched c.args.effort.nodes by.new.meter by.new.deadline by.new.space (omega (arith, c.loop-branched-test.true)) by.ensures.grows no_more)
+    l.invariant.branched c.args.effort.nodes by.new.meter by.new.deadline by.new.space (omega (arith, c.loop-branched-test.true)) by.ensures.grows no_more least)
 
 pub returns-clause-branched : goal.returns-clause-branched
 returns-clause-branched g c =
@@ -226,7 +233,8 @@ returns-clause-branched g c =
     subst (EndsBranching g.W.Write.contents b.case.now b.from b.given.now l.deadline l.space c.args.meter.now l.meter c.args.log.now l.log)
     (raised_is c.raised_by-2.result l.reached.bound (record { rounds = c.args.effort.rounds; nodes = c.args.effort.nodes }) c.raised_by-2.ensures.bound c.raised_by-2.ensures.effort)
     (branched-end g.W.Write.contents b.case.now b.from b.given.now c.args.effort.rounds l.branched c.args.meter.now l.meter c.args.log.now l.log (time_of l.deadline) l.reached
-    l.invariant.branched c.args.effort.nodes l.meter l.deadline l.space (omega (arith, l.auto.branched-end)) (omega arith) (inr (inr (inr searched))))
+    l.invariant.branched c.args.effort.nodes l.meter l.deadline l.space (omega (arith, l.auto.branched-end)) (omega arith) (inr (inr (inr searched)))
+    (λ capacity. l.invariant.least))
 
 -- there is no capacity for a node
 
@@ -242,7 +250,8 @@ returns-then-not-begin-clause-branched g c =
     (raised_is c.raised_by-then-not-begin.result by.reached.bound (record { rounds = c.args.effort.rounds; nodes = c.args.effort.nodes }) c.raised_by-then-not-begin.ensures.bound c.raised_by-then-not-begin.ensures.effort)
     (branched-end g.W.Write.contents b.case.now b.from b.given.now c.args.effort.rounds 0 c.args.meter.now c.make_rounds.new.meter c.args.log.now c.make_rounds.new.log (time_of c.make_rounds.new.deadline) by.reached
     (branched-none g.W.Write.contents b.case.now b.from b.given.now c.args.effort.rounds 0 c.args.meter.now c.make_rounds.new.meter c.args.log.now c.make_rounds.new.log (time_of c.make_rounds.new.deadline) by.reached ok) c.args.effort.nodes c.make_rounds.new.meter
-    c.make_rounds.new.deadline (record { bounds = c.make_rounds.new.workspace; nodes = c.begin.new.self }) (omega arith) (omega arith) (inr (inl (omega (arith, none, capacity)))))
+    c.make_rounds.new.deadline (record { bounds = c.make_rounds.new.workspace; nodes = c.begin.new.self }) (omega arith) (omega arith) (inr (inl (omega (arith, none, capacity))))
+    (λ enough. absurd (omega (arith, enough, none, capacity))))
 
 pub branch_least-is_branched-requires-clause-below : goal.branch_least-is_branched-requires-clause-below
 branch_least-is_branched-requires-clause-below g c = λ bound least. omega (arith, c.loop-branched.invariant.least bound least, c.if-reached-top.false)
