@@ -80,7 +80,7 @@ pub(crate) const SEARCHES: OptionalNumber = OptionalNumber {
     help: SEARCH_COUNT,
 };
 
-/// After how many seconds a run ends at the latest.
+/// After about how many seconds a run ends at the latest.
 pub(crate) const SECONDS: OptionalNumber = OptionalNumber {
     name: "seconds",
     value: "S",

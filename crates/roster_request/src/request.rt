@@ -7,8 +7,8 @@ use std::alloc::{AllocError, AllocFailed};
 /// What the program is to do. If it changes rows or bounds what they cost, each day of a nurse that changes
 /// from the given roster (to another shift, to off, or from off) costs `keep` points. Another skill is free.
 ///
-/// If seconds are given, the run ends after that time at the latest, if it hasn't ended before. What it finds
-/// then depends on the machine.
+/// If seconds are given, the run ends after about that time at the latest, if it hasn't ended before. What it
+/// finds then depends on the machine.
 #[derive(Debug, Drop)]
 pub enum Command {
     /// Writes the solutions that it was given, in canonical form.

@@ -226,7 +226,7 @@ pub(crate) const SEARCH_COUNT: &str =
      given, 400 for each nurse, and 20000 at least; with --seconds 10000000";
 
 pub(crate) const SECOND_COUNT: &str =
-    "The run ends after S seconds at the latest, 1 to 86400; what it finds then depends on the \
+    "The run ends after about S seconds at the latest, 1 to 86400; what it finds then depends on the \
      machine";
 
 pub(crate) const SEED_NUMBER: &str = "The seed of the run's random numbers, 0 to 4294967295";

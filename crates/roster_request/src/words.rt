@@ -181,7 +181,7 @@ fn searches_of(given: &ArgMatches<'_>) -> Option<u32>
     number_if_given(given, SEARCHES)
 }
 
-/// After how many seconds the run ends at the latest, if that is given.
+/// After about how many seconds the run ends at the latest, if that is given.
 fn seconds_of(given: &ArgMatches<'_>) -> Option<u32>
     requires { HasSeconds (rows_of (found_of given.now)) }
     ensures seconds { IsNumberIfGiven (codes "seconds") result (rows_of (found_of given.now)) }
