@@ -10,6 +10,8 @@ KINDS = {"sce": "scenario", "his": "history", "weeks": "week data", "sols": "sol
 
 # What an editor may begin a text with.
 UTF8_MARK = b"\xef\xbb\xbf"
+# What is said of a dash that is no file.
+DASH = "'-' is a file's name, and standard input is read if no file is named"
 # What the solutions of a run are called that are in no file yet.
 SO_FAR = "the roster so far"
 
@@ -213,4 +215,5 @@ def read_file(name: str, kind: str = "") -> Text:
         raise DeskError(f"{shown(name)}: this is a folder; name the files in it", 3) from None
     except (OSError, ValueError) as why:
         reason = getattr(why, "strerror", None) or str(why)
-        raise DeskError(f"{shown(name)}: read failed: {reason}; give the name of a file that can be read", 3) from None
+        remedy = DASH if name == "-" else "give the name of a file that can be read"
+        raise DeskError(f"{shown(name)}: read failed: {reason}; {remedy}", 3) from None
