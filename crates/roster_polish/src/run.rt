@@ -291,8 +291,8 @@ struct Passes {
     per_search: u64,
 }
 
-/// The passes of a fade: none for kicks alone. It makes four for each search of a nurse, or eight if it has
-/// many searches for each nurse though few are left for so many nurses.
+/// The passes of a fade: none for kicks alone. It makes four for each search of a nurse, or eight for few
+/// nurses with many searches each.
 fn passes_within<K>(course: &Course<K>, left: u64, nurses: u32) -> Passes
     requires some { 0 < nurses }
     requires few { nurses ≤ most_nurses }
@@ -300,8 +300,11 @@ fn passes_within<K>(course: &Course<K>, left: u64, nurses: u32) -> Passes
 {
     let each = searches_each(course, left, nurses);
     let has_many = each >= SEARCHES_FOR_MORE;
-    let are_few = left < FEW_SEARCHES / nurses as u64;
-    let per_search = if has_many && are_few { 8 } else { 4 };
+    let per_search = if has_many && nurses <= FEW_NURSES {
+        8
+    } else {
+        4
+    };
     Passes {
         all: per_search * each as u64,
         per_search,
@@ -311,9 +314,8 @@ fn passes_within<K>(course: &Course<K>, left: u64, nurses: u32) -> Passes
 /// From this many searches for each nurse on they are many.
 const SEARCHES_FOR_MORE: u32 = 200;
 
-/// Fewer searches than this number over that of the nurses are few: then a run makes few fades, or fades of
-/// few searches.
-const FEW_SEARCHES: u64 = 1_300_000;
+/// Up to this many nurses are few.
+const FEW_NURSES: u32 = 20;
 
 /// How many searches for each nurse a fade takes: none for kicks alone, and else as many as are left, up to
 /// the most. It leaves three in a hundred of all searches, or four for each nurse if that is more, for passes

@@ -8,7 +8,7 @@ use roster_timer::Deadline;
 use std::time::Clock;
 
 /// The most microseconds that a run can be given: a day. A run that has no limit of time counts as one that
-/// has so many for each fade.
+/// has a day for each fade.
 pub(crate) const MOST_MICROS: u64 = 86_400_000_000;
 
 /// How many searches are left, and how many microseconds.
