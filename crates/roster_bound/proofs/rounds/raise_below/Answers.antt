@@ -40,7 +40,7 @@ returns-in_err-sent-clause-err g c =
     rw (p.1, p.2)
     (stops-later g.W.Write.contents b.case.now b.from b.given.now c.args.meter.now l.invariant.branched.by_rounds c.args.log.now (record { rounds = c.args.effort.rounds; nodes = l.branched + 1 }) c.args.effort.nodes c.log_round.new.log _ (omega (arith, c.loop-branched-test.true))
     (branched_breaks g.W.Write.contents b.case.now b.from b.given.now c.args.meter.now l.invariant.branched.by_rounds c.args.log.now c.args.effort.rounds l.branched c.bound-bound.result l.invariant.branched.by_rounds l.log c.log_round.new.log l.reached c.in_err-sent.field-0.0
-    l.invariant.branched.has c.if-bound-reached.false least c.in_err-sent.ensures.err))
+    l.invariant.branched.has (omega (arith, c.if-bound-reached.false)) least c.in_err-sent.ensures.err))
 
 pub returns-in_err-sent-clause-counted : goal.returns-in_err-sent-clause-counted
 returns-in_err-sent-clause-counted g c =
@@ -58,7 +58,7 @@ loop-branched-preserved g c =
     record {
       branched = branched-raised g.W.Write.contents b.case.now b.from b.given.now c.args.effort.rounds l.branched c.args.meter.now l.meter c.args.log.now l.log (time_of l.deadline) l.reached l.invariant.branched is_branched.new.meter (time_of is_branched.new.deadline)
           (later-then (time_of l.deadline) (time_of c.left.new.self) (time_of is_branched.new.deadline) c.left.ensures.later is_branched.ensures.later) is_branched.ensures.grows (is_branched.ensures.searched c.if-not-is_branched.false) c.in_ok-sent.sent c.bound-bound.result
-          c.log_round.new.log c.if-bound-reached.false least c.in_ok-sent.ensures.ok;
+          c.log_round.new.log (omega (arith, c.if-bound-reached.false)) least c.in_ok-sent.ensures.ok;
       below = below;
       nodes = c.branch_least-is_branched.ensures.nodes;
       least = least_within nodes c.bound-bound.result c.bound-bound.result c.bound-bound.ensures (omega arith);
