@@ -4,8 +4,10 @@ use std::fs;
 use std::io::Read;
 use std::rt::Files;
 
-/// How many bytes of stack a run may need.
+/// How many bytes of stack a run may need, and the line that says so.
 const LEAST: u64 = 2_097_152;
+
+pub(crate) const IS_SMALL: &str = "the stack is limited to less than 2048 kB\n";
 
 /// The file in which Linux says what limits this process has, a line for each: its name, the limit, and more.
 const LIMITS: &str = "/proc/self/limits";

@@ -1,5 +1,8 @@
 //! The cheapest rows together that were found, and what has to be undercut.
 
+ghost use Rattle.std.specs.Prelude.{◌≡◌};
+ghost use Rattle.roster_near.specs.Drawn.{number_found};
+
 use crate::problem::{MOST_FREE, Problem};
 use crate::rows::Rows;
 use roster_instance::Case;
@@ -99,7 +102,9 @@ impl Found {
     }
 
     /// The number of a nurse's choice on an open day.
-    pub(crate) fn number(&self, free: usize, offset: usize) -> u8 {
+    pub(crate) fn number(&self, free: usize, offset: usize) -> u8
+        ensures { result ≡ number_found self.now free offset }
+    {
         let at = free.saturating_mul(self.days).saturating_add(offset);
         if offset < self.days && at < self.numbers.len() {
             self.numbers[at]

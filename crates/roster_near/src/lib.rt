@@ -70,8 +70,10 @@
 //! # What is promised
 //!
 //! `search_near` promises that it makes no more searches than are left, that the meter counts no more than
-//! these may (`specs/Spending.antt`), and that the memory serves further ones. No contract says that the rows
-//! that it finds are allowed or cheaper: the caller checks the roster with them as any other.
+//! these may (`specs/Spending.antt`), and that the memory serves further ones. `NearSpace` promises which
+//! nurses are free, and that the row that it writes for one of them is the given one on the days that aren't
+//! open, and the one that was found on the others (`specs/Drawn.antt`). No contract says that the rows that
+//! are found are allowed or cheaper: the caller checks the roster with them as any other.
 #![tactic(auto)]
 
 mod ascent;

@@ -1,5 +1,9 @@
 //! The subproblem: which nurses are free, which days are open, and which slots are then uncovered.
 
+ghost use Rattle.std.specs.Prelude.{◌≡◌, slice_index_or};
+ghost use Rattle.roster_bundle.specs.Limits.{greatest_u64};
+ghost use Rattle.roster_near.specs.Drawn.{free_nurses};
+
 use crate::choices::{NUMBERS, cell_of, number_of};
 use roster_instance::{Case, Choice, Shift, Skill, choice_on};
 use roster_prices::{NearBase, Window};
@@ -92,7 +96,9 @@ impl Problem {
     }
 
     /// The free nurse with this index; a nurse that no case has if there is none.
-    pub(crate) fn nurse(&self, free: usize) -> usize {
+    pub(crate) fn nurse(&self, free: usize) -> usize
+        ensures { result ≡ slice_index_or (free_nurses self.now) free greatest_u64 }
+    {
         if free < self.free && free < self.nurses.len() {
             self.nurses[free] as usize
         } else {

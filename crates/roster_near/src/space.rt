@@ -1,5 +1,11 @@
 //! The memory of searches in neighbourhoods.
 
+ghost use Rattle.std.specs.Prelude.{◌≡◌, ◌<◌, ℕ, length, min, slice_index_or};
+ghost use Rattle.roster_bundle.specs.Limits.{greatest_u64};
+ghost use Rattle.roster_instance.specs.Limits.{most_days};
+ghost use Rattle.roster_instance.specs.Rosters.{choice_on};
+ghost use Rattle.roster_near.specs.Drawn.{choice_found, free_nurses};
+
 use crate::branching::Uses;
 use crate::choices::choice_of;
 use crate::draws::Draws;
@@ -103,31 +109,51 @@ impl NearSpace {
     }
 
     /// How many nurses are free in the last neighbourhood.
-    pub fn free(&self) -> usize {
+    pub fn free(&self) -> usize
+        ensures { result ≡ self.now.problem.free }
+    {
         self.problem.free
     }
 
     /// The free nurse with this index; a number that no nurse has if there is none.
-    pub fn nurse(&self, free: usize) -> usize {
+    pub fn nurse(&self, free: usize) -> usize
+        ensures { result ≡ slice_index_or (free_nurses self.now.problem) free greatest_u64 }
+    {
         self.problem.nurse(free)
     }
 
     /// Writes the row that was found for a free nurse, of whom `given` is the present one: it differs on open
     /// days alone.
-    pub fn write_found(&mut self, free: usize, given: &[Choice]) {
-        let window = self.problem.window;
+    pub fn write_found(&mut self, free: usize, given: &[Choice])
+        ensures row { (day : ℕ) → day < min (length self.old.row.items) most_days →
+            choice_on self.new.row.items day ≡ choice_found self.old.problem self.old.found free
+            given.now day }
+        ensures length { length self.new.row.items ≡ length self.old.row.items }
+        ensures problem { self.new.problem ≡ self.old.problem }
+        ensures found { self.new.found ≡ self.old.found }
+    {
         for day in 0..self.row.len().min(MOST_DAYS) {
-            let day_number = day as u16;
-            self.row[day] = choice_on(given, day_number);
-            if window.first <= day_number && day_number < window.end {
-                let offset = (day_number - window.first) as usize;
-                self.row[day] = choice_of(self.found.number(free, offset));
-            }
+            self.row[day] = self.choice_found(free, given, day as u16);
+        }
+    }
+
+    /// The choice of a free nurse on a day in the rows that were found, of whom `given` is the present one.
+    fn choice_found(&self, free: usize, given: &[Choice], day: u16) -> Choice
+        ensures { result ≡ choice_found self.now.problem self.now.found free given.now day }
+    {
+        let window = self.problem.window;
+        if window.first <= day && day < window.end {
+            let offset = day - window.first;
+            choice_of(self.found.number(free, offset as usize))
+        } else {
+            choice_on(given, day)
         }
     }
 
     /// The row that was written last.
-    pub fn row(&self) -> &[Choice] {
+    pub fn row(&self) -> &[Choice]
+        ensures { result.now ≡ self.now.row.items }
+    {
         &self.row
     }
 }
