@@ -19,7 +19,7 @@ ghost use Rattle.roster_polish.specs.Tries.{CanSearch};
 use crate::fade::{fade_rows, make_fade_pass};
 use crate::kick::Kicking;
 use crate::random::Random;
-use crate::run::{Course, rounds_within};
+use crate::run::{Course, rounds_for};
 use crate::searches::{MOST_MICROS, Searches};
 use crate::space::PolishSpace;
 use crate::turns::Turns;
@@ -60,12 +60,6 @@ const OUTWEIGHING: Fading = Fading {
     share: WHOLE / 8,
     missing: MOST_DUAL_PRICE,
 };
-
-/// For how many rounds over all nurses the dual prices are improved before the first fade, at most.
-const MOST_ROUNDS: u32 = 30;
-
-/// These rounds take at most one of this many parts of the searches.
-const ROUNDS_DIVISOR: u32 = 4;
 
 /// What a search for a first roster leaves: this many searches, and the rest of the time.
 #[derive(Clone, Copy)]
@@ -162,7 +156,7 @@ fn begin_plan<T: SearchesRows, K: Clock + Copy>(
 {
     base.case.keeps_limits();
     let nurses = base.case.nurses() as u32;
-    let rounds = rounds_within(course.searches, ROUNDS_DIVISOR, MOST_ROUNDS, nurses);
+    let rounds = rounds_for(course, nurses);
     let mut searches = Searches {
         left: course.searches as u64,
         deadline: course.deadline,

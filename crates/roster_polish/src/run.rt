@@ -248,12 +248,14 @@ fn set_first_prices<T: SearchesRows, K: Clock + Copy>(
     held.case().keeps_limits();
     let rounds = rounds_for(course, held.case().nurses() as u32);
     let base = Base::of(held, course.from);
-    space.improve_prices(&base, rounds as u16, Some(held.total()), searches, meter);
+    // A fade begins as one from an empty roster does, however dear the given one is.
+    let penalty = course.kicks_alone.then_some(held.total());
+    space.improve_prices(&base, rounds as u16, penalty, searches, meter);
 }
 
 /// For how many rounds dual prices are improved before a fade, with at most a quarter of the searches, or
 /// before kicks alone, with at most half of them.
-fn rounds_for<K>(course: &Course<K>, nurses: u32) -> u32
+pub(crate) fn rounds_for<K>(course: &Course<K>, nurses: u32) -> u32
     requires nurses { nurses ≤ most_nurses }
     ensures few { result ≤ 100 }
     ensures within { result * nurses ≤ course.now.searches }
@@ -266,14 +268,14 @@ fn rounds_for<K>(course: &Course<K>, nurses: u32) -> u32
 
 /// For how many rounds they are improved at most. After more, all good rows of a nurse cost nearly the same
 /// by them, so that each search takes longer, and fades end no better.
-const ROUNDS_OF_FADE: u32 = 50;
+const ROUNDS_OF_FADE: u32 = 30;
 
 /// The same if kicks alone are made.
 const ROUNDS_OF_KICKS: u32 = 100;
 
 /// For how many rounds over all nurses dual prices are improved, if they may take one of `parts` equal parts
 /// of the searches, and are `most`.
-pub(crate) fn rounds_within(searches: u32, parts: u32, most: u32, nurses: u32) -> u32
+fn rounds_within(searches: u32, parts: u32, most: u32, nurses: u32) -> u32
     requires parts { 0 < parts }
     requires few { parts ≤ 4 }
     requires nurses { nurses ≤ most_nurses }
