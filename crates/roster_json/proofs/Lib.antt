@@ -1,0 +1,4 @@
+pub mod Writing
+pub mod Shapes
+pub mod ReportLines
+pub mod BreachLines
