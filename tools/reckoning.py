@@ -600,6 +600,52 @@ def cost_lines(case, roster):
     return "".join(f"{rule} {cost}\n" for rule, cost in [*found.items(), ("total", sum(found.values()))])
 
 
+def json_string(name):
+    """A name as a string of JSON. What isn't UTF-8 in it becomes U+FFFD; texts that were read keep such bytes as surrogates."""
+    text = name.encode(errors="surrogateescape").decode(errors="replace")
+    escaped = lambda match: f"\\u{ord(match[0]):04x}" if match[0] < " " else f"\\{match[0]}"
+    return '"' + re.sub(r'["\\\x00-\x1f]', escaped, text) + '"'
+
+
+def json_line(kind, **fields):
+    """An object as a line."""
+    values = {str: json_string, bool: lambda truth: str(truth).lower(), int: str}
+    members = [f"{json_string(key)}:{values[type(value)](value)}" for key, value in {"kind": kind, **fields}.items()]
+    return "{" + ",".join(members) + "}\n"
+
+
+def json_breaches(case, roster):
+    """A line for each day on which a row breaks H3, H4 or an absence."""
+    for breach in breaches_of_rows(case, roster):
+        fields = {"rule": breach.rule, "day": breach.day, "week": breach.day // 7, "weekday": DAYS[breach.day % 7]}
+        yield json_line("breach", **fields, nurse=breach.number, nurse_name=case.nurses[breach.number].name)
+
+
+def json_short_slots(case, roster):
+    """A line for each slot that is short of its minimum."""
+    for day in days_of(case):
+        covers = cover(row[day] for row in roster)
+        for (shift, skill), need in sorted(case.needs.items()):
+            have = covers[shift, skill]
+            if have < need[day].least:
+                fields = {"rule": "H2", "day": day, "week": day // 7, "weekday": DAYS[day % 7], "shift": shift}
+                fields |= {"shift_name": case.shifts[shift].name, "skill": skill, "skill_name": case.skills[skill]}
+                yield json_line("breach", **fields, have=have, need=need[day].least)
+
+
+def json_cost_lines(case, roster):
+    """What 'cost --json' answers."""
+    found, lines = costs(case, roster), [*json_short_slots(case, roster), *json_breaches(case, roster)]
+    return "".join([*lines, json_line("costs", allowed=not lines, **found, total=sum(found.values()))])
+
+
+def json_who_lines(case, roster, asked, first_week=0, row_of=cheapest_taking_row):
+    """What 'who --json' writes."""
+    name = lambda taker: {"nurse": taker.number, "nurse_name": case.nurses[taker.number].name}
+    line = lambda taker: json_line("taker", **name(taker), penalty=taker.penalty, changed=taker.changed, missed=taker.missed)
+    return "".join(map(line, takers(case, roster, asked, first_week, row_of)))
+
+
 def start_of(case, number):
     """How a log begins."""
     return f"keep {case.keep}\nstart {number}" if case.keep else f"start {number}"

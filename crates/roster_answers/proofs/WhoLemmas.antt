@@ -1,5 +1,5 @@
 -- How `who` ends.
-use Rattle.std.proofs.Common.{◌≡◌, ◌∙◌, ◌+◌, ◌<◌, ◌≤◌, ◌++◌, ◌∷◌, [], ℕ, List, None, Option, Result, Some, ap, append-nil, arith, drop, flat_map, get_or, length, option_map, option_to_list, refl, subst, suc, sym, take, zero}
+use Rattle.std.proofs.Common.{◌≡◌, ◌∙◌, ◌+◌, ◌<◌, ◌≤◌, ◌++◌, ◌∷◌, [], ℕ, Bool, List, None, Option, Result, Some, ap, append-nil, arith, drop, flat_map, get_or, length, option_map, option_to_list, refl, subst, suc, sym, take, zero}
 use Rattle.std.specs.List.{All, range_with_len}
 use Rattle.std.proofs.lemmas.List.Elements.{All-append, All-cons, All-nil}
 use Rattle.std.proofs.lemmas.List.Sorted.{All-permutation}
@@ -23,21 +23,21 @@ use Rattle.roster_answers.specs.declared.fault.Fault.TheVariants as fault
 use Rattle.roster_answers.specs.declared.fault.Thing.{Thing}
 use Rattle.roster_answers.proofs.AnswerLemmas.{written_ends}
 
-module _ {W : Type 0} (names : AskedNames) (from : ℕ) (c : Meaning) (r : Rows) (output : Output W) where
+module _ {W : Type 0} (names : AskedNames) (from : ℕ) (json : Bool) (c : Meaning) (r : Rows) (output : Output W) where
   abbrev all : List Taker
   all = takers c from (without_absent_work c r) (asked_by c names)
 
   abbrev report : List Taker → Report
-  report listed = who_report names from listed c r
+  report listed = who_report names from json listed c r
 
-  is_report : (listed : List Taker) → AreInOrder all listed → IsWhoReport names from c r (report listed)
+  is_report : (listed : List Taker) → AreInOrder all listed → IsWhoReport names from json c r (report listed)
   is_report listed are = record { listed = listed; in_order = are; is = refl }
 
   -- some order, if no line is printed
   some : (listed : List Taker) × AreInOrder all listed
   some = some_order all
 
-  pub who_refused : (f : Fault) → IsFirstBreach c (irreparable c from r) f → Untouched output → EndsBy output (IsWhoReport names from c r) c (Some f)
+  pub who_refused : (f : Fault) → IsFirstBreach c (irreparable c from r) f → Untouched output → EndsBy output (IsWhoReport names from json c r) c (Some f)
   who_refused (fault.Hard f d) h same = record { report = report some.0; is = is_report some.0 some.1; ends = record { ends = h; left = same } }
   who_refused (fault.Text f) h same = absurd h
   who_refused (fault.Case f nurse) h same = absurd h
@@ -49,29 +49,29 @@ module _ {W : Type 0} (names : AskedNames) (from : ℕ) (c : Meaning) (r : Rows)
   who_refused fault.Log h same = absurd h
 
   module _ (kept : irreparable c from r ≡ []) where
-    pub who_unknown : (thing : Thing) (name : Bor Text) → unknown_asked c names ≡ Some (thing, name.now) → Untouched output → EndsBy output (IsWhoReport names from c r) c (Some (fault.Unknown thing name))
+    pub who_unknown : (thing : Thing) (name : Bor Text) → unknown_asked c names ≡ Some (thing, name.now) → Untouched output → EndsBy output (IsWhoReport names from json c r) c (Some (fault.Unknown thing name))
     who_unknown thing name unknown same = record { report = report some.0; is = is_report some.0 some.1; ends = record { ends = (kept, unknown); left = same } }
 
     module _ (known : unknown_asked c names ≡ None) where
-      pub who_without_memory : Untouched output → EndsBy output (IsWhoReport names from c r) c (Some fault.Workspace)
+      pub who_without_memory : Untouched output → EndsBy output (IsWhoReport names from json c r) c (Some fault.Workspace)
       who_without_memory same = record { report = report some.0; is = is_report some.0 some.1; ends = record { ends = (kept, known, refl); left = same } }
 
       pub who_written : {X : Type 0} (listed : List Taker) → AreInOrder all listed → (before : ℕ) → before ≡ missed c (without_absent_work c r) → (result : Result X Fault)
-          → OnOk result (Writes output.contents output.before output.after (who_text c before listed)) → IfErr result (StopsOutput output.contents output.before output.after (who_text c before listed))
-          → EndsBy output (IsWhoReport names from c r) c (outcome_of result)
+          → OnOk result (Writes output.contents output.before output.after (who_text c json before listed)) → IfErr result (StopsOutput output.contents output.before output.after (who_text c json before listed))
+          → EndsBy output (IsWhoReport names from json c r) c (outcome_of result)
       who_written listed are before is result ok err = record {
         report = report listed;
         is = is_report listed are;
         ends = written_ends output (report listed) c result (record { kept = kept; found = refl; known = known })
-            (subst (λ m. OnOk result (Writes output.contents output.before output.after (who_text c m listed))) is ok)
-            (subst (λ m. IfErr result (StopsOutput output.contents output.before output.after (who_text c m listed))) is err);
+            (subst (λ m. OnOk result (Writes output.contents output.before output.after (who_text c json m listed))) is ok)
+            (subst (λ m. IfErr result (StopsOutput output.contents output.before output.after (who_text c json m listed))) is err);
       }
 
 -- some report, if none is written
-pub some_who : (names : AskedNames) (from : ℕ) (c : Meaning) (r : Rows) → (p : Report) × IsWhoReport names from c r p
-some_who names from c r =
+pub some_who : (names : AskedNames) (from : ℕ) (json : Bool) (c : Meaning) (r : Rows) → (p : Report) × IsWhoReport names from json c r p
+some_who names from json c r =
     let some = some_order (takers c from (without_absent_work c r) (asked_by c names)) in
-    (who_report names from some.0 c r, record { listed = some.0; in_order = some.1; is = refl })
+    (who_report names from json some.0 c r, record { listed = some.0; in_order = some.1; is = refl })
 
 -- ---- the lines, one after another
 

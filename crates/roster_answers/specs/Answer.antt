@@ -39,6 +39,7 @@ use Rattle.roster_who.specs.Who.{AreInOrder, missed as missed_of, takers, withou
 use Rattle.roster_who.specs.declared.asked.Asked.{Asked}
 use Rattle.roster_who.specs.declared.taker.Taker.{Taker}
 use Rattle.roster_reports.specs.Lines.{Text, bound_text, costs_text, nurse_of, taker_line}
+use Rattle.roster_json.specs.Reports.{json_taker}
 use Rattle.roster_answers.specs.Lines.{IsFirstBreach, best_log, fault_line}
 use Rattle.roster_answers.specs.declared.fault.Fault.{Fault}
 use Rattle.roster_answers.specs.declared.fault.Fault.TheVariants as fault
@@ -292,25 +293,27 @@ unknown_asked c names =
     (option_or (unknown_among thing.Shift c.shift_names names.shift)
     (option_and_then (unknown_among thing.Skill c.skill_names) names.skill))
 
--- a line for each nurse who may take an assignment, with how many nurses are still lacking, if the roster is
--- short of minimums
-abbrev pub who_line : Meaning → ℕ → Taker → Text
-who_line c missed t =
+-- a line for each nurse who may take an assignment, as JSON or not, with how many nurses are still lacking;
+-- a line that isn't JSON says so if the roster is short of minimums
+abbrev pub who_line : Meaning → Bool → ℕ → Taker → Text
+who_line c true missed t = json_taker c t.nurse t.penalty t.changed t.missed
+who_line c false missed t =
     taker_line (nurse_name c t.nurse) t.penalty t.changed (if nat_lt 0 missed then Some t.missed else None)
 
-abbrev pub who_text : Meaning → ℕ → List Taker → Text
-who_text c missed listed = flat_map (who_line c missed) listed
+abbrev pub who_text : Meaning → Bool → ℕ → List Taker → Text
+who_text c json missed listed = flat_map (who_line c json missed) listed
 
-abbrev pub who_report : AskedNames → (from : ℕ) → List Taker → Meaning → Rows → Report
-who_report names from listed c r =
-    record (plain (who_text c (missed_of c (without_absent_work c r)) listed))
+abbrev pub who_report : AskedNames → (from : ℕ) → Bool → List Taker → Meaning → Rows → Report
+who_report names from json listed c r =
+    record (plain (who_text c json (missed_of c (without_absent_work c r)) listed))
     { is_held = true; broken = irreparable c from r; unknown = unknown_asked c names }
 
 -- The report lists all nurses who may take it, in order. What absent nurses work in the roster doesn't count.
-pub record IsWhoReport (names : AskedNames) (from : ℕ) (c : Meaning) (r : Rows) (p : Report) : Type 0 where
+pub record IsWhoReport (names : AskedNames) (from : ℕ) (json : Bool) (c : Meaning) (r : Rows)
+    (p : Report) : Type 0 where
   pub listed : List Taker
   pub in_order : AreInOrder (takers c from (without_absent_work c r) (asked_by c names)) listed
-  pub is : p ≡ who_report names from listed c r
+  pub is : p ≡ who_report names from json listed c r
 
 -- ---- the same for an instance that was read
 
@@ -318,8 +321,8 @@ abbrev pub IsBoundFor : {K : Type 0} → Task K → Instance → Report → Type
 IsBoundFor task instance p =
     IsBoundWithin task.effort task.deadline.ends task.from instance.case instance.roster p
 
-abbrev pub IsWhoFor : AskedNames → (from : ℕ) → Instance → Report → Type 0
-IsWhoFor names from instance p = IsWhoReport names from instance.case instance.roster p
+abbrev pub IsWhoFor : AskedNames → (from : ℕ) → Bool → Instance → Report → Type 0
+IsWhoFor names from json instance p = IsWhoReport names from json instance.case instance.roster p
 
 -- ---- what is refused
 

@@ -23,7 +23,7 @@ pub use asked::{Asking, Unknown, asked_by};
 pub use best::report_best;
 pub use bound::report_bound;
 pub use fault::{Fault, Thing};
-pub use figures::{report_cost, report_sizes};
+pub use figures::{report_cost, report_json_cost, report_json_sizes, report_sizes};
 pub use held::hold;
 pub use improve::report_improve;
 pub use instance::Instance;

@@ -42,7 +42,8 @@ pub fn run_plan(alloc: Global, plan: &Plan) -> Result<Tally, AllocError> {
 /// The command that answers a plan's bundles. It has the plan's amount, and no week is frozen.
 fn command_of(plan: &Plan) -> Command
     ensures show { (number : ℕ) → plan.now.work ≡ work.Show number → result ≡ command.Show }
-    ensures cost { (bundles : ℕ) → plan.now.work ≡ work.Cost bundles → result ≡ command.Cost }
+    ensures cost { (bundles : ℕ) → plan.now.work ≡ work.Cost bundles →
+        result ≡ command.Cost false }
     ensures improve { (rounds : ℕ) → plan.now.work ≡ work.Improve rounds →
         result ≡ command.Improve rounds 0 0 }
     ensures bound { (rounds : ℕ) → plan.now.work ≡ work.Bound rounds →
@@ -52,7 +53,7 @@ fn command_of(plan: &Plan) -> Command
 {
     match plan.work {
         Work::Show { .. } => Command::Show,
-        Work::Cost { .. } => Command::Cost,
+        Work::Cost { .. } => Command::Cost { json: false },
         Work::Improve { rounds } => Command::Improve {
             rounds,
             from: 0,

@@ -12,6 +12,7 @@ use Rattle.roster_instance.specs.declared.fault.CaseFault.TheVariants as case
 use Rattle.roster_answers.specs.Answer.{Input, IsKeptAt, IsOutcomeOf, Leaves, LeavesLog, CommandEnd, Output, Report, Reports, SpellsInstance, StopsReading, Untouched, best_report, cost_report, improve_report, plain, roster_of}
 use Rattle.roster_cli.specs.Answer.{Answers, IsAnswer, IsPlanReport, IsPolishReport, IsReportIn, IsUnread, case_for, keep_of, plan_report, polish_report, searches_for}
 use Rattle.roster_reports.specs.Lines.{Text, sizes_text}
+use Rattle.roster_json.specs.Reports.{json_cost, json_sizes}
 use Rattle.roster_answers.specs.Lines.{status_of}
 use Rattle.roster_answers.specs.declared.fault.Fault.{Fault}
 use Rattle.roster_answers.specs.declared.fault.Fault.TheVariants as fault
@@ -111,13 +112,15 @@ none_of f o none = ap (λ x. option_map f x) none
 -- each command has a report
 some_report : (command : Command) (c : Meaning) (r : Rows) → (p : Report) × IsReportIn command c r p
 some_report command.Show c r = (plain (weeks_text c r), refl)
-some_report command.Cost c r = (cost_report c r, refl)
-some_report command.Sizes c r = (plain (sizes_text c), refl)
+some_report (command.Cost false) c r = (cost_report c r, refl)
+some_report (command.Cost true) c r = (plain (json_cost c r), refl)
+some_report (command.Sizes false) c r = (plain (sizes_text c), refl)
+some_report (command.Sizes true) c r = (plain (json_sizes c), refl)
 some_report (command.Best nurse from keep) c r = (best_report (string_bytes nurse) from c r, refl)
 some_report (command.Improve rounds from keep) c r = (improve_report rounds from c r, refl)
 some_report (command.Bound rounds nodes seconds from keep) c r = (let some = some_report_of_bounds (record { rounds = rounds; nodes = nodes }) from c r in (some.0, record { made = record { rounds = rounds; nodes = nodes }; rounds = omega arith; nodes = omega arith; all = λ e. refl; report = some.1 }))
 some_report (command.Polish searches seconds seed from alone keep) c r = (kickless from c r, no_kick (searches_for c searches seconds) from alone c r)
-some_report (command.Who day shift skill from) c r = some_who (record { day = string_bytes day; shift = string_bytes shift; skill = option_map string_bytes skill }) from c r
+some_report (command.Who day shift skill from json) c r = some_who (record { day = string_bytes day; shift = string_bytes shift; skill = option_map string_bytes skill }) from json c r
 some_report (command.Plan searches seconds seed from keep) c r = (unplanned from r c r, no_plan (searches_for c searches seconds) from false c r r (λ e. e) (planned_self c from r))
 
 pub refused_reading : {W L : Type 0} (output : Output W) (log : Output L) (command : Command) (source : Text) (f : Fault) → StopsReading source f → Untouched output → Untouched log

@@ -19,6 +19,7 @@ use Rattle.roster_polish.specs.Plans.{IsPlanned}
 use Rattle.roster_polish.specs.Polished.{IsPolishing, most_searches}
 use Rattle.roster_polish.specs.declared.run.Course.{Course}
 use Rattle.roster_reports.specs.Lines.{Text, sizes_text}
+use Rattle.roster_json.specs.Reports.{json_cost, json_sizes}
 use Rattle.roster_answers.specs.Lines.{IsFirstBreach, output_line, status_of}
 use Rattle.roster_answers.specs.declared.fault.Fault.{Fault}
 use Rattle.roster_answers.specs.declared.fault.Fault.TheVariants as fault
@@ -93,8 +94,10 @@ case_for command c r = keeping c r (keep_of command)
 -- this is what a command writes for a case, whatever roster the case keeps
 abbrev pub IsReportIn : Command → Meaning → Rows → Report → Type 0
 IsReportIn command.Show c r p = p ≡ plain (weeks_text c r)
-IsReportIn command.Cost c r p = p ≡ cost_report c r
-IsReportIn command.Sizes c r p = p ≡ plain (sizes_text c)
+IsReportIn (command.Cost false) c r p = p ≡ cost_report c r
+IsReportIn (command.Cost true) c r p = p ≡ plain (json_cost c r)
+IsReportIn (command.Sizes false) c r p = p ≡ plain (sizes_text c)
+IsReportIn (command.Sizes true) c r p = p ≡ plain (json_sizes c)
 IsReportIn (command.Best nurse from keep) c r p = p ≡ best_report (string_bytes nurse) from c r
 IsReportIn (command.Improve rounds from keep) c r p = p ≡ improve_report rounds from c r
 IsReportIn (command.Bound rounds nodes seconds from keep) c r p =
@@ -103,9 +106,10 @@ IsReportIn (command.Polish searches seconds seed from alone keep) c r p =
     IsPolishReport (searches_for c searches seconds) from alone c r p
 IsReportIn (command.Plan searches seconds seed from keep) c r p =
     IsPlanReport (searches_for c searches seconds) from false c r p
-IsReportIn (command.Who day shift skill from) c r p =
+IsReportIn (command.Who day shift skill from json) c r p =
     IsWhoReport (record
-    { day = string_bytes day; shift = string_bytes shift; skill = option_map string_bytes skill }) from c r p
+    { day = string_bytes day; shift = string_bytes shift; skill = option_map string_bytes skill })
+    from json c r p
 
 -- this is what a command requires of a case and its roster, and writes for them
 abbrev pub IsReportOf : Command → Meaning → Rows → Report → Type 0

@@ -8,8 +8,8 @@ ghost use Rattle.roster_cli.specs.Answer.{IsReportFor, keep_of, searches_for};
 use crate::plan::report_plan;
 use crate::polish::report_polish;
 use roster_answers::{
-    Asking, Fault, Instance, report_best, report_bound, report_cost, report_improve, report_sizes,
-    report_who, show_weeks,
+    Asking, Fault, Instance, report_best, report_bound, report_cost, report_improve,
+    report_json_cost, report_json_sizes, report_sizes, report_who, show_weeks,
 };
 use roster_bound::{Effort, Task};
 use roster_instance::Case;
@@ -39,8 +39,10 @@ pub(crate) fn report<'a, K: Clock + Copy, Out: Write, Log: Write>(
 {
     match command {
         Command::Show => show_weeks(&instance.case, &instance.roster, output),
-        Command::Cost => report_cost(alloc, instance, output),
-        Command::Sizes => report_sizes(&instance.case, output),
+        Command::Cost { json: false } => report_cost(alloc, instance, output),
+        Command::Cost { json: true } => report_json_cost(&instance, output),
+        Command::Sizes { json: false } => report_sizes(&instance.case, output),
+        Command::Sizes { json: true } => report_json_sizes(&instance.case, output),
         Command::Best { nurse, from, .. } => {
             report_best::<RowSearcher, Out, Log>(
                 alloc,
@@ -110,9 +112,10 @@ pub(crate) fn report<'a, K: Clock + Copy, Out: Write, Log: Write>(
             shift,
             skill,
             from,
+            json,
         } => {
             let asking = asking_of(day, shift, skill, *from);
-            report_who::<RowSearcher, Out>(alloc, asking, instance, output)
+            report_who::<RowSearcher, Out>(alloc, asking, *json, instance, output)
         }
     }
 }
@@ -155,7 +158,7 @@ pub(crate) fn keep_of(command: &Command) -> u16
     ensures within { result ≤ most_keep }
 {
     match command {
-        Command::Show | Command::Cost | Command::Sizes => 0,
+        Command::Show | Command::Cost { .. } | Command::Sizes { .. } => 0,
         Command::Best { keep, .. } => (*keep).min(MOST_KEEP),
         Command::Improve { keep, .. } => (*keep).min(MOST_KEEP),
         Command::Bound { keep, .. } => (*keep).min(MOST_KEEP),

@@ -343,6 +343,7 @@ fn asks_who(alloc: Global, words: &[&str], (day, shift, skill, from): Wanted<'_>
         shift: of,
         skill: with,
         from: first,
+        json: false,
     } = &request.command
     else {
         return false;

@@ -82,9 +82,17 @@ seconds_rule = optional_rule (codes "seconds") 1 most_seconds
 abbrev pub seed_rule : Rule
 seed_rule = number_rule (codes "seed") most_seed (codes "1")
 
+-- a flag
+abbrev pub flag_rule : Text → Rule
+flag_rule name = record (new_rule name) { long = Some name; action = Some action.SetTrue }
+
 -- whether the run makes only kicks
 abbrev pub kicks_rule : Rule
-kicks_rule = record (new_rule (codes "kicks")) { long = Some (codes "kicks"); action = Some action.SetTrue }
+kicks_rule = flag_rule (codes "kicks")
+
+-- whether the report is JSON
+abbrev pub json_rule : Rule
+json_rule = flag_rule (codes "json")
 
 -- the first week that may change
 abbrev pub from_rule : Rule
@@ -102,6 +110,10 @@ command_of name = with_rule (new_app name) files_rule
 abbrev pub own_command_of : List Rule → Text → App
 own_command_of rules name = with_rule (fold with_rule (new_app name) rules) files_rule
 
+-- a command that reads files and writes a report, as JSON if it is asked to
+abbrev pub report_of : Text → App
+report_of name = own_command_of (json_rule ∷ []) name
+
 -- a command with a number of searches, with seconds and a seed, before its other arguments
 abbrev pub searching : Text → App
 searching name = with_rule (with_rule (with_rule (new_app name) searches_rule) seconds_rule) seed_rule
@@ -114,7 +126,7 @@ plan =
 
 -- the command `who`
 abbrev pub who : App
-who = own_command_of (day_rule ∷ shift_rule ∷ skill_rule ∷ from_rule ∷ []) (codes "who")
+who = own_command_of (day_rule ∷ shift_rule ∷ skill_rule ∷ from_rule ∷ json_rule ∷ []) (codes "who")
 
 -- the program before its commands: it has a version, and requires one of its commands
 abbrev pub bare : App
@@ -128,7 +140,7 @@ bare = record {
 -- the commands, in the order of the help
 abbrev pub commands : List Shape
 commands =
-    (command_of (codes "show")).top ∷ (command_of (codes "cost")).top ∷ (command_of (codes "sizes")).top
+    (command_of (codes "show")).top ∷ (report_of (codes "cost")).top ∷ (report_of (codes "sizes")).top
     ∷ (own_command_of (nurse_rule ∷ from_rule ∷ keep_rule ∷ []) (codes "best")).top
     ∷ (own_command_of (rounds_rule ∷ from_rule ∷ keep_rule ∷ []) (codes "improve")).top
     ∷ (own_command_of (rounds_rule ∷ nodes_rule ∷ seconds_rule ∷ from_rule ∷ keep_rule ∷ [])
@@ -145,14 +157,14 @@ program = fold with_subcommand bare commands
 -- a command's name
 abbrev pub name_of : Command → Text
 name_of command.Show = codes "show"
-name_of command.Cost = codes "cost"
-name_of command.Sizes = codes "sizes"
+name_of (command.Cost json) = codes "cost"
+name_of (command.Sizes json) = codes "sizes"
 name_of (command.Best nurse from keep) = codes "best"
 name_of (command.Improve rounds from keep) = codes "improve"
 name_of (command.Bound rounds nodes seconds from keep) = codes "bound"
 name_of (command.Polish searches seconds seed from alone keep) = codes "polish"
 name_of (command.Plan searches seconds seed from keep) = codes "plan"
-name_of (command.Who day shift skill from) = codes "who"
+name_of (command.Who day shift skill from json) = codes "who"
 
 -- one of these commands has this name
 abbrev pub IsNameOf : List Shape → Text → Type 0
@@ -260,6 +272,8 @@ pub record IsFlag (name : Text) (is_given : Bool) (rows : List Row) : Type 0 whe
 
 -- the command's own arguments are those among its matches
 abbrev pub HasArguments : Command → List Row → Type 0
+HasArguments (command.Cost json) rows = IsFlag (codes "json") json rows
+HasArguments (command.Sizes json) rows = IsFlag (codes "json") json rows
 HasArguments (command.Best nurse from keep) rows =
     (first_of (codes "nurse") rows ≡ Some (string_bytes nurse)) × IsNumberOf (codes "from") from rows
     × IsNumberOf (codes "keep") keep rows
@@ -278,10 +292,11 @@ HasArguments (command.Plan searches seconds seed from keep) rows =
     IsNumberIfGiven (codes "searches") searches rows × IsNumberIfGiven (codes "seconds") seconds rows
     × IsNumberOf (codes "seed") seed rows × IsNumberOf (codes "from") from rows
     × IsNumberOf (codes "keep") keep rows
-HasArguments (command.Who day shift skill from) rows =
+HasArguments (command.Who day shift skill from json) rows =
     (first_of (codes "day") rows ≡ Some (string_bytes day))
     × (first_of (codes "shift") rows ≡ Some (string_bytes shift)) ×
     (first_of (codes "skill") rows ≡ option_map string_bytes skill) × IsNumberOf (codes "from") from rows
+    × IsFlag (codes "json") json rows
 HasArguments _ rows = Unit {0}
 
 -- seconds that a run may be given
@@ -303,7 +318,7 @@ IsInRange (command.Polish searches seconds seed from alone keep) =
 IsInRange (command.Plan searches seconds seed from keep) =
     IfSome searches (λ n. n ≤ most_searches) × IfSome seconds AreSeconds
     × (from ≤ most_from) × (keep ≤ most_keep)
-IsInRange (command.Who day shift skill from) = from ≤ most_from
+IsInRange (command.Who day shift skill from json) = from ≤ most_from
 IsInRange _ = Unit {0}
 
 -- the command that was met, by its name and its matches, is that of the request, with its arguments and its

@@ -3,13 +3,13 @@
 ghost use Rattle.std.specs.Prelude.{◌≡◌, [], ◌∷◌, codes, drop, IfOk, IsOkAnd, false, true};
 ghost use Rattle.std.specs.List.{fold};
 ghost use Rattle.clap.specs.Words.{app_of, new_app, rule_of, with_rule, with_subcommand};
-ghost use Rattle.roster_request.specs.CommandLine.{bare, command_of, commands, files_rule, from_rule, given_rule, keep_rule, kicks_rule, nodes_rule, number_rule, optional_rule, own_command_of, nurse_rule, plan, program, rounds_rule, searches_rule, searching, seconds_rule, seed_rule, skill_rule, value_rule, who};
+ghost use Rattle.roster_request.specs.CommandLine.{bare, command_of, commands, files_rule, flag_rule, from_rule, given_rule, json_rule, keep_rule, kicks_rule, nodes_rule, number_rule, optional_rule, own_command_of, nurse_rule, plan, program, report_of, rounds_rule, searches_rule, searching, seconds_rule, seed_rule, skill_rule, value_rule, who};
 
 use crate::texts::{
     ABOUT, BEST, BEST_HELP, BOUND, BOUND_HELP, COST, COST_HELP, EXAMPLES, FIRST_WEEK, IMPROVE,
-    IMPROVE_HELP, KEPT_POINTS, KICKS_ALONE, NODE_COUNT, NURSE_NAME, PLAN, PLAN_HELP, POLISH,
-    POLISH_HELP, ROUND_COUNT, SEARCH_COUNT, SECOND_COUNT, SEED_NUMBER, SHIFT_NAME, SHOW, SHOW_HELP,
-    SIZES, SIZES_HELP, SKILL_NAME, TEXTS, WEEK_AND_DAY, WHO, WHO_HELP,
+    IMPROVE_HELP, JSON_LINES, KEPT_POINTS, KICKS_ALONE, NODE_COUNT, NURSE_NAME, PLAN, PLAN_HELP,
+    POLISH, POLISH_HELP, ROUND_COUNT, SEARCH_COUNT, SECOND_COUNT, SEED_NUMBER, SHIFT_NAME, SHOW,
+    SHOW_HELP, SIZES, SIZES_HELP, SKILL_NAME, TEXTS, WEEK_AND_DAY, WHO, WHO_HELP,
 };
 use clap::builder::ValueParser;
 use clap::{Arg, ArgAction, Command};
@@ -30,6 +30,9 @@ pub(crate) const SKILL: &str = "skill";
 
 /// The name of the flag for kicks only.
 pub(crate) const KICKS: &str = "kicks";
+
+/// The name of the flag for a report as JSON.
+pub(crate) const JSON: &str = "json";
 
 /// A number that a command may be given by the option `name`, from 0 to `most`. It is `default` if it isn't
 /// given. The help calls it `value`, and says `help` about it.
@@ -125,8 +128,8 @@ pub(crate) fn program<'a>(alloc: Global) -> Result<Command<'a>, AllocError>
     ensures { IfOk result (λ c. app_of c ≡ program) }
 {
     let with_show = with_files_command(alloc, Ok(bare(alloc)), "show", SHOW, SHOW_HELP);
-    let with_cost = with_files_command(alloc, with_show, "cost", COST, COST_HELP);
-    let with_sizes = with_files_command(alloc, with_cost, "sizes", SIZES, SIZES_HELP);
+    let with_cost = with_report_command(alloc, with_show, "cost", COST, COST_HELP);
+    let with_sizes = with_report_command(alloc, with_cost, "sizes", SIZES, SIZES_HELP);
     with_search_commands(alloc, with_sizes)
 }
 
@@ -172,6 +175,21 @@ fn with_files_command<'a>(
     with_command(program, with_files(alloc, command))
 }
 
+/// A program with one more command that writes a report, as JSON if it is asked to.
+fn with_report_command<'a>(
+    alloc: Global,
+    program: Made<'a>,
+    name: &'a str,
+    about: &'a str,
+    help: &'a str,
+) -> Made<'a>
+    ensures { IfOk result (λ c. IsOkAnd program.entry
+        (λ p. app_of c ≡ with_subcommand (app_of p) (report_of name.now).top)) }
+{
+    let command = Ok(command(alloc, name, about, help));
+    with_command(program, with_files(alloc, with_json(alloc, command)))
+}
+
 /// A program with one more command.
 fn with_command<'a>(program: Made<'a>, command: Made<'a>) -> Made<'a>
     ensures { IfOk result (λ c. IsOkAnd program.entry
@@ -205,7 +223,7 @@ fn who_command<'a>(alloc: Global) -> Made<'a>
     let with_day = with_given(alloc, command, DAY, "V:DAY", WEEK_AND_DAY);
     let with_shift = with_given(alloc, with_day, SHIFT, "NAME", SHIFT_NAME);
     let with_from = with_number(alloc, with_skill(alloc, with_shift), FROM);
-    with_files(alloc, with_from)
+    with_files(alloc, with_json(alloc, with_from))
 }
 
 /// The command `improve`.
@@ -319,7 +337,15 @@ fn with_kicks<'a>(alloc: Global, command: Made<'a>) -> Made<'a>
     ensures { IfOk result (λ c. IsOkAnd command.entry
         (λ before. app_of c ≡ with_rule (app_of before) kicks_rule)) }
 {
-    command?.arg(kicks_arg(alloc))
+    command?.arg(flag_arg(alloc, KICKS, KICKS_ALONE))
+}
+
+/// A command that may be asked for JSON.
+fn with_json<'a>(alloc: Global, command: Made<'a>) -> Made<'a>
+    ensures { IfOk result (λ c. IsOkAnd command.entry
+        (λ before. app_of c ≡ with_rule (app_of before) json_rule)) }
+{
+    command?.arg(flag_arg(alloc, JSON, JSON_LINES))
 }
 
 /// A command that reads any number of files.
@@ -359,15 +385,15 @@ fn skill_arg<'a>(alloc: Global) -> Arg<'a>
     value_arg(alloc, SKILL, "NAME").help(SKILL_NAME)
 }
 
-/// The flag for kicks only.
-fn kicks_arg<'a>(alloc: Global) -> Arg<'a>
-    ensures rule { rule_of result ≡ kicks_rule }
+/// A flag.
+fn flag_arg<'a>(alloc: Global, name: &'a str, help: &'a str) -> Arg<'a>
+    ensures rule { rule_of result ≡ flag_rule name.now }
     ensures local { result.global ≡ false }
 {
-    Arg::new(alloc, KICKS)
-        .long(KICKS)
+    Arg::new(alloc, name)
+        .long(name)
         .action(ArgAction::SetTrue)
-        .help(KICKS_ALONE)
+        .help(help)
 }
 
 /// A number that may be left out.

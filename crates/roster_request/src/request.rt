@@ -9,14 +9,21 @@ use std::alloc::{AllocError, AllocFailed};
 ///
 /// If seconds are given, the run ends after about that time at the latest, if it hasn't ended before. What it
 /// finds then depends on the machine.
+///
+/// With `json` the report is written as one object of JSON a line.
 #[derive(Debug, Drop)]
 pub enum Command {
     /// Writes the solutions that it was given, in canonical form.
     Show,
-    /// Writes what the roster costs by each soft rule, if it keeps the hard rules.
-    Cost,
+    /// Writes what the roster costs by each soft rule, if it keeps the hard rules. As JSON it writes that of
+    /// any roster, after all its breaches.
+    Cost {
+        json: bool,
+    },
     /// Writes how much the search for each nurse takes.
-    Sizes,
+    Sizes {
+        json: bool,
+    },
     /// Writes the solutions with the best row of the nurse of this name put in, even if it isn't cheaper. The
     /// weeks before week `from` stay as they are.
     Best {
@@ -71,6 +78,7 @@ pub enum Command {
         shift: String,
         skill: Option<String>,
         from: u16,
+        json: bool,
     },
 }
 

@@ -36,11 +36,19 @@ A line is written for each soft rule, and a last one for their total:
   S7  30 for each worked weekend above the greatest number
   S8  10 for each day of a nurse with a wish to work that isn't met
 
-Example:
+With --json each line is an object. One is written for each breach of the hard
+rules, with its rule and day, and with its nurse or its shift and skill; the
+last has the costs, also of a roster that breaks a rule, and says by 'allowed'
+whether it keeps them all. Then the status is 0.
+
+Examples:
   roster cost examples/mini.txt
+  roster cost --json examples/mini.txt
 
 The files are read one after another, in the order given. Without a file, the
 texts are read from standard input.";
+
+pub(crate) const JSON_LINES: &str = "Write the report as JSON, one object a line";
 
 pub(crate) const SIZES: &str = "Write how much the search for each nurse takes";
 
@@ -63,8 +71,12 @@ what a run keeps for each nurse.
 
 The hard rules aren't checked.
 
-Example:
+With --json each line is an object, with the nurse's number and name and the
+four numbers as 'states', 'labels', 'pointers' and 'extensions'.
+
+Examples:
   roster sizes examples/mini.txt
+  roster sizes --json examples/mini.txt
 
 The files are read one after another, in the order given. Without a file, the
 texts are read from standard input.";
@@ -417,6 +429,9 @@ first, and of equally cheap ones in the order of the scenario. If nobody may
 take the shift, nothing is written.
 
 As always, a second shift on a day and a skill that the nurse lacks are refused.
+
+With --json each line is an object, with the nurse's number and name and the
+numbers as 'penalty', 'changed' and 'missed', which is there in any case.
 
 With --from V, weeks 0 to V - 1 are frozen: the nurses' days in them stay as
 they are, and so do those of the section FIXED; if they break a hard rule, one

@@ -6,8 +6,8 @@ ghost use Rattle.roster_request.specs.CommandLine.{AreSeconds, HasArguments, Has
 ghost use Rattle.roster_request.specs.Limits.{most_from, most_keep, most_nodes, most_rounds, most_searches};
 
 use crate::program::{
-    DAY, FILES, FROM, KEEP, KICKS, NODES, NURSE, NumberOption, OptionalNumber, ROUNDS, SEARCHES,
-    SECONDS, SEED, SHIFT, SKILL, program,
+    DAY, FILES, FROM, JSON, KEEP, KICKS, NODES, NURSE, NumberOption, OptionalNumber, ROUNDS,
+    SEARCHES, SECONDS, SEED, SHIFT, SKILL, program,
 };
 use crate::request::{CliFault, Command, Request};
 use crate::texts::EXAMPLES;
@@ -83,8 +83,12 @@ fn command_in(alloc: Global, name: &str, given: &ArgMatches<'_>) -> Result<Comma
 {
     match name {
         "show" => Ok(Command::Show),
-        "cost" => Ok(Command::Cost),
-        "sizes" => Ok(Command::Sizes),
+        "cost" => Ok(Command::Cost {
+            json: json_of(given),
+        }),
+        "sizes" => Ok(Command::Sizes {
+            json: json_of(given),
+        }),
         "best" => Ok(Command::Best {
             nurse: given_text(alloc, given, NURSE)?,
             from: from_of(given),
@@ -122,6 +126,7 @@ fn command_in(alloc: Global, name: &str, given: &ArgMatches<'_>) -> Result<Comma
             shift: given_text(alloc, given, SHIFT)?,
             skill: text_if_given(alloc, given, SKILL)?,
             from: from_of(given),
+            json: json_of(given),
         }),
         _ => unreachable!(),
     }
@@ -203,6 +208,13 @@ fn kicks_alone_of(given: &ArgMatches<'_>) -> bool
     ensures { IsFlag (codes "kicks") result (rows_of (found_of given.now)) }
 {
     given.get_flag(KICKS)
+}
+
+/// Whether the report is to be JSON.
+fn json_of(given: &ArgMatches<'_>) -> bool
+    ensures { IsFlag (codes "json") result (rows_of (found_of given.now)) }
+{
+    given.get_flag(JSON)
 }
 
 /// The first week that may change.

@@ -76,8 +76,8 @@ const ANSWERS: [Answer; 8] = [
 fn command_of(alloc: Global, name: &str) -> Result<Command, AllocError> {
     Ok(match name {
         "show" => Command::Show,
-        "cost" => Command::Cost,
-        "sizes" => Command::Sizes,
+        "cost" => Command::Cost { json: false },
+        "sizes" => Command::Sizes { json: false },
         "best" => Command::Best {
             nurse: String::from_str(alloc, "Ann")?,
             from: 0,
@@ -103,6 +103,7 @@ fn command_of(alloc: Global, name: &str) -> Result<Command, AllocError> {
             shift: String::from_str(alloc, "Early")?,
             skill: None,
             from: 0,
+            json: false,
         },
         _ => Command::Improve {
             rounds: 100,

@@ -9,6 +9,8 @@ mod failing_tests;
 #[cfg(test)]
 mod hostile_tests;
 #[cfg(test)]
+mod json_tests;
+#[cfg(test)]
 mod polish_tests;
 #[cfg(test)]
 mod time_tests;

@@ -15,7 +15,7 @@ pub returns-in-Some : goal.returns-in-Some
 returns-in-Some g c =
     let output : Output g.row.Out.Denot = record { contents = g.Out.Write.contents; before = c.args.output.now; after = c.args.output.now } in
     let i = c.args.instance in
-    who_refused (names_in c.args.asking) c.args.asking.from i.case i.roster output (fault.Hard c.in-Some.fault c.into_case.result) (sym c.in-Some.ensures, c.into_case.ensures) refl
+    who_refused (names_in c.args.asking) c.args.asking.from c.args.json i.case i.roster output (fault.Hard c.in-Some.fault c.into_case.result) (sym c.in-Some.ensures, c.into_case.ensures) refl
 
 -- nothing on the frozen days is beyond repair
 repairable : (g : given.Over) (c : After-asked_by g) → irreparable c.args.instance.case c.args.asking.from c.args.instance.roster ≡ []
@@ -25,7 +25,7 @@ pub returns-in-Err : goal.returns-in-Err
 returns-in-Err g c =
     let output : Output g.row.Out.Denot = record { contents = g.Out.Write.contents; before = c.args.output.now; after = c.args.output.now } in
     let i = c.args.instance in
-    who_unknown (names_in c.args.asking) c.args.asking.from i.case i.roster output (repairable g (goal.at.returns-in-Err g c).After-asked_by) c.in-Err.unknown.thing c.in-Err.unknown.name c.in-Err.ensures.unknown refl
+    who_unknown (names_in c.args.asking) c.args.asking.from c.args.json i.case i.roster output (repairable g (goal.at.returns-in-Err g c).After-asked_by) c.in-Err.unknown.thing c.in-Err.unknown.name c.in-Err.ensures.unknown refl
 
 -- the takers of the assignment that these names ask for
 in_order : (g : given.Over) (c : After-find_takers g) (listed : List Taker) → AreInOrder (takers c.args.instance.case c.args.asking.from (without_absent_work c.args.instance.case c.args.instance.roster) c.in-Ok.asked) listed
@@ -44,11 +44,11 @@ returns-in-Ok-find_takers g c =
     let at = goal.at.returns-in-Ok-find_takers g c in
     let i = c.args.instance in
     let takers_found = c.in-Ok-find_takers.takers in
-    who_written (names_in c.args.asking) c.args.asking.from i.case i.roster output (repairable g at.After-asked_by) c.in-Ok.ensures.known takers_found.listed.items
+    who_written (names_in c.args.asking) c.args.asking.from c.args.json i.case i.roster output (repairable g at.After-asked_by) c.in-Ok.ensures.known takers_found.listed.items
     (in_order g at.After-find_takers takers_found.listed.items c.in-Ok-find_takers.ensures.takers) takers_found.missed c.in-Ok-find_takers.ensures.missed c.show_takers.result c.show_takers.ensures.ok c.show_takers.ensures.err
 
 pub returns : goal.returns
 returns g c =
     let output : Output g.row.Out.Denot = record { contents = g.Out.Write.contents; before = c.args.output.now; after = c.args.output.now } in
     let i = c.args.instance in
-    who_without_memory (names_in c.args.asking) c.args.asking.from i.case i.roster output (repairable g (goal.at.returns g c).After-asked_by) c.in-Ok.ensures.known refl
+    who_without_memory (names_in c.args.asking) c.args.asking.from c.args.json i.case i.roster output (repairable g (goal.at.returns g c).After-asked_by) c.in-Ok.ensures.known refl

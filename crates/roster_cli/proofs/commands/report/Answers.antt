@@ -1,10 +1,12 @@
-use Rattle.std.proofs.Common.{◌∙◌, ap, false, refl, subst, sym}
+use Rattle.std.proofs.Common.{◌≡◌, ◌∙◌, ap, false, refl, rules, subst, sym, true}
 use Rattle.roster_instance.specs.Meaning.{Meaning}
 use Rattle.roster_case.specs.Shown.{weeks_text}
-use Rattle.roster_answers.specs.Answer.{IsBoundWithin, IsWhoReport, Output, Reports, best_report, cost_report, improve_report, names_in, outcome_of, plain}
+use Rattle.roster_answers.specs.Answer.{IsBoundWithin, IsWhoReport, Output, Reports, best_report, improve_report, names_in, outcome_of, plain}
 use Rattle.roster_cli.specs.Answer.{IsPlanReport, IsPolishReport, IsReportIn}
 use Rattle.roster_reports.specs.Lines.{sizes_text}
+use Rattle.roster_json.specs.Reports.{json_cost, json_sizes}
 use Rattle.roster_answers.proofs.AnswerLemmas.{plain_ends, silent_log}
+use Rattle.roster_request.specs.declared.request.Command.TheVariants as command
 use Rattle.roster_cli.proofs.AnswerLemmas.{none_of}
 use Rattle.roster_cli.proofs.commands.report.Goals as goal
 
@@ -16,20 +18,32 @@ returns-in-Show g c =
     let e = plain_ends output (weeks_text c.args.instance.case c.args.instance.roster) c.args.instance.case c.show_weeks.result c.show_weeks.ensures.ok c.show_weeks.ensures.err in
     record { report = p; is = subst (λ x. IsReportIn x c.args.instance.case c.args.instance.roster p) (sym c.in-Show.is) refl; ends = e; logged = silent_log output log p c.args.instance.case (outcome_of c.show_weeks.result) refl e refl }
 
-pub returns-in-Cost : goal.returns-in-Cost
-returns-in-Cost g c =
-    let output : Output g.row.Out.Denot = record { contents = g.Out.Write.contents; before = c.args.output.now; after = c.report_cost.new.output } in
+pub returns-in-Cost-true : goal.returns-in-Cost-true
+returns-in-Cost-true g c =
+    let output : Output g.row.Out.Denot = record { contents = g.Out.Write.contents; before = c.args.output.now; after = c.report_json_cost.new.output } in
     let log : Output g.row.Log.Denot = record { contents = g.Log.Write.contents; before = c.args.log.now; after = c.args.log.now } in
-    let p = cost_report c.args.instance.case c.args.instance.roster in
-    record { report = p; is = subst (λ x. IsReportIn x c.args.instance.case c.args.instance.roster p) (sym c.in-Cost.is) refl; ends = c.report_cost.ensures.ends; logged = silent_log output log p c.args.instance.case (outcome_of c.report_cost.result) refl c.report_cost.ensures.ends refl }
+    let p = plain (json_cost c.args.instance.case c.args.instance.roster) in
+    let e = plain_ends output (json_cost c.args.instance.case c.args.instance.roster) c.args.instance.case c.report_json_cost.result c.report_json_cost.ensures.ok c.report_json_cost.ensures.err in
+    let asked : c.in-Cost-true.json ≡ true = search rules in
+    record { report = p; is = subst (λ x. IsReportIn x c.args.instance.case c.args.instance.roster p) (sym c.in-Cost-true.is) (subst (λ b. IsReportIn (command.Cost b) c.args.instance.case c.args.instance.roster p) (sym asked) refl); ends = e; logged = silent_log output log p c.args.instance.case (outcome_of c.report_json_cost.result) refl e refl }
 
-pub returns-in-Sizes : goal.returns-in-Sizes
-returns-in-Sizes g c =
+pub returns-in-Sizes-false : goal.returns-in-Sizes-false
+returns-in-Sizes-false g c =
     let output : Output g.row.Out.Denot = record { contents = g.Out.Write.contents; before = c.args.output.now; after = c.report_sizes.new.output } in
     let log : Output g.row.Log.Denot = record { contents = g.Log.Write.contents; before = c.args.log.now; after = c.args.log.now } in
     let p = plain (sizes_text c.args.instance.case) in
     let e = plain_ends output (sizes_text c.args.instance.case) c.args.instance.case c.report_sizes.result c.report_sizes.ensures.ok c.report_sizes.ensures.err in
-    record { report = p; is = subst (λ x. IsReportIn x c.args.instance.case c.args.instance.roster p) (sym c.in-Sizes.is) refl; ends = e; logged = silent_log output log p c.args.instance.case (outcome_of c.report_sizes.result) refl e refl }
+    let asked : c.in-Sizes-false.json ≡ false = search rules in
+    record { report = p; is = subst (λ x. IsReportIn x c.args.instance.case c.args.instance.roster p) (sym c.in-Sizes-false.is) (subst (λ b. IsReportIn (command.Sizes b) c.args.instance.case c.args.instance.roster p) (sym asked) refl); ends = e; logged = silent_log output log p c.args.instance.case (outcome_of c.report_sizes.result) refl e refl }
+
+pub returns-in-Sizes-true : goal.returns-in-Sizes-true
+returns-in-Sizes-true g c =
+    let output : Output g.row.Out.Denot = record { contents = g.Out.Write.contents; before = c.args.output.now; after = c.report_json_sizes.new.output } in
+    let log : Output g.row.Log.Denot = record { contents = g.Log.Write.contents; before = c.args.log.now; after = c.args.log.now } in
+    let p = plain (json_sizes c.args.instance.case) in
+    let e = plain_ends output (json_sizes c.args.instance.case) c.args.instance.case c.report_json_sizes.result c.report_json_sizes.ensures.ok c.report_json_sizes.ensures.err in
+    let asked : c.in-Sizes-true.json ≡ true = search rules in
+    record { report = p; is = subst (λ x. IsReportIn x c.args.instance.case c.args.instance.roster p) (sym c.in-Sizes-true.is) (subst (λ b. IsReportIn (command.Sizes b) c.args.instance.case c.args.instance.roster p) (sym asked) refl); ends = e; logged = silent_log output log p c.args.instance.case (outcome_of c.report_json_sizes.result) refl e refl }
 
 pub returns-in-Best : goal.returns-in-Best
 returns-in-Best g c =
@@ -77,8 +91,8 @@ returns g c =
     let output : Output g.row.Out.Denot = record { contents = g.Out.Write.contents; before = c.args.output.now; after = c.report_who.new.output } in
     let log : Output g.row.Log.Denot = record { contents = g.Log.Write.contents; before = c.args.log.now; after = c.args.log.now } in
     let made = c.report_who.ensures in
-    let from_week = subst (λ w. IsWhoReport (names_in c.asking_of-asking.result) w c.args.instance.case c.args.instance.roster made.report) c.asking_of-asking.ensures.from made.is in
-    let named = subst (λ names. IsWhoReport names c.in-Who.from c.args.instance.case c.args.instance.roster made.report) c.asking_of-asking.ensures.names from_week in
+    let from_week = subst (λ w. IsWhoReport (names_in c.asking_of-asking.result) w c.in-Who.json c.args.instance.case c.args.instance.roster made.report) c.asking_of-asking.ensures.from made.is in
+    let named = subst (λ names. IsWhoReport names c.in-Who.from c.in-Who.json c.args.instance.case c.args.instance.roster made.report) c.asking_of-asking.ensures.names from_week in
     record {
       report = made.report;
       is = subst (λ x. IsReportIn x c.args.instance.case c.args.instance.roster made.report) (sym c.in-Who.is) named;
