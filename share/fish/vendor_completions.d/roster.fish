@@ -25,8 +25,10 @@ complete -c roster -n __roster_begins -s V -l version -d 'Print version'
 complete -c roster -n '__roster_is show' -F
 complete -c roster -n '__roster_is show' -s h -l help -d 'Print help'
 complete -c roster -n '__roster_is cost' -F
+complete -c roster -n '__roster_is cost' -l json -d 'Write the report as JSON, one object a line'
 complete -c roster -n '__roster_is cost' -s h -l help -d 'Print help'
 complete -c roster -n '__roster_is sizes' -F
+complete -c roster -n '__roster_is sizes' -l json -d 'Write the report as JSON, one object a line'
 complete -c roster -n '__roster_is sizes' -s h -l help -d 'Print help'
 complete -c roster -n '__roster_is best' -F
 complete -c roster -n '__roster_is best' -l nurse -x -d 'The nurse\'s name in the scenario, letter for letter'
@@ -65,5 +67,6 @@ complete -c roster -n '__roster_is who' -l day -x -d 'The day of the shift: the 
 complete -c roster -n '__roster_is who' -l shift -x -d 'The shift\'s name in the scenario, letter for letter'
 complete -c roster -n '__roster_is who' -l skill -x -d 'The skill\'s name in the scenario; if it is not given, any that the nurse has'
 complete -c roster -n '__roster_is who' -l from -x -d 'The first week that may change, 0 to 52: the weeks before it stay as they are [default: 0]'
+complete -c roster -n '__roster_is who' -l json -d 'Write the report as JSON, one object a line'
 complete -c roster -n '__roster_is who' -s h -l help -d 'Print help'
 complete -c roster -n '__roster_is help' -a 'show cost sizes best improve bound polish plan who help'
