@@ -1,5 +1,5 @@
 -- The lines of reports, by what the program has for their fields.
-use Rattle.std.proofs.Common.{◌≡◌, ◌∙◌, ◌+◌, ◌*◌, ◌<◌, ◌∷◌, [], ℕ, Bool, ap, ap₂, arith, codes, min}
+use Rattle.std.proofs.Common.{◌≡◌, ◌∙◌, ◌<◌, ◌∷◌, [], ℕ, Bool, ap, ap₂, arith, codes, min}
 use Rattle.std.proofs.Math.Nat.{min-eq_left}
 use Rattle.roster_instance.specs.Meaning.{Meaning, day_count, nurse_name}
 use Rattle.roster_instance.specs.Sizes.{choice_count, state_count}

@@ -1,9 +1,9 @@
 -- Texts that are written one after another, without counts.
-use Rattle.std.proofs.Common.{◌≡◌, ◌∙◌, ◌+◌, ◌-◌, ◌<◌, ◌≤◌, ◌++◌, ◌∷◌, [], ℕ, Err, List, Ok, Option, Result, ap, append-nil, append_assoc, arith, drop, flat_map, get_or, length, refl, subst, sym, take}
+use Rattle.std.proofs.Common.{◌∙◌, ◌+◌, ◌-◌, ◌<◌, ◌++◌, ◌∷◌, [], ℕ, Err, List, Ok, Option, Result, ap, append-nil, drop, flat_map, get_or, length, subst, sym, take}
 use Rattle.std.specs.Prelude.{OnErr, OnOk}
 use Rattle.std.specs.List.{range_with_len}
 use Rattle.std.proofs.lemmas.List.Concat.{flat_map-append}
-use Rattle.std.proofs.lemmas.List.{take-append-drop, take_more}
+use Rattle.std.proofs.lemmas.List.{take_more}
 use Rattle.roster_bundle.proofs.Ranges.{flat_map-range_more}
 use Rattle.roster_text.specs.Io.{Stops, Watched, Writes}
 use Rattle.roster_text.proofs.Texts.{Stops-after, Stops-append, Writes-append, flat_map-range_split, flat_map-split}

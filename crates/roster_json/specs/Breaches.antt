@@ -10,7 +10,7 @@ use Rattle.roster_rules.specs.HardRules.{breaks_succession, is_able_on, is_here_
 use Rattle.roster_rules.specs.declared.fault.HardFault.{HardFault}
 use Rattle.roster_rules.specs.declared.fault.HardFault.TheVariants.{H2, H3, H4, Absent}
 use Rattle.roster_reports.specs.Lines.{Text, shift_name, skill_name}
-use Rattle.roster_json.specs.Json.{Member, name, number, object_line}
+use Rattle.roster_json.specs.Json.{name, number, object_line}
 use Rattle.roster_json.specs.declared.breaches.NurseRule.{NurseRule}
 use Rattle.roster_json.specs.declared.breaches.NurseRule.TheVariants as rule
 

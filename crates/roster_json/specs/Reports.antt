@@ -1,5 +1,5 @@
 -- The reports as JSON, one object a line.
-use Rattle.std.specs.Prelude.{ℕ, ◌*◌, ◌++◌, ◌∷◌, Bool, List, [], codes, flat_map}
+use Rattle.std.specs.Prelude.{ℕ, ◌*◌, ◌++◌, ◌∷◌, Bool, [], codes, flat_map}
 use Rattle.std.specs.List.{range_with_len}
 use Rattle.roster_instance.specs.Meaning.{Meaning, day_count, nurse_count, nurse_name}
 use Rattle.roster_instance.specs.Rosters.{Rows}

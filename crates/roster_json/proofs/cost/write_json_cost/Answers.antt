@@ -1,4 +1,4 @@
-use Rattle.std.proofs.Common.{◌++◌, ap₂, subst}
+use Rattle.std.proofs.Common.{ap₂, subst}
 use Rattle.std.specs.Prelude.{OnErr, OnOk}
 use Rattle.roster_text.specs.Io.{Stops, Writes}
 use Rattle.roster_text.proofs.Texts.{Stops-append}
