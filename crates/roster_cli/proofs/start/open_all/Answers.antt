@@ -1,6 +1,6 @@
-use Rattle.std.proofs.Common.{◌+◌, ◌++◌, ◌∷◌, ℕ, Err, [], arith, drop, inl, inr, map, refl, rules, string_bytes, subst, sym, take}
+use Rattle.std.proofs.Common.{◌+◌, ◌++◌, ◌∷◌, [], arith, drop, inl, map, refl, rules, string_bytes, subst, sym, take}
 use denote.Param.Always.{mut_next}
-use Rattle.roster_cli.specs.Start.{IsOpenFault, OpensAll}
+use Rattle.roster_cli.specs.Start.{OpensAll}
 use Rattle.roster_cli.proofs.StartLemmas.{names_more, names_split, opens_more}
 use Rattle.roster_cli.proofs.start.open_all.Goals as goal
 
