@@ -25,6 +25,7 @@ pub fn run_plan(alloc: Global, plan: &Plan) -> Result<Tally, AllocError> {
     let request = Request {
         command: command_of(plan),
         files: Vec::new(alloc),
+        out: None,
     };
     let mut tally = Tally {
         digest: Digest::new(),

@@ -6,13 +6,14 @@ use Rattle.roster_text.specs.declared.fault.TextFault.TheVariants as text
 use Rattle.roster_instance.specs.Bundles.{meaning_of}
 use Rattle.roster_instance.specs.declared.fault.CaseFault.{CaseFault}
 use Rattle.roster_instance.specs.declared.fault.CaseFault.TheVariants as case
-use Rattle.roster_answers.specs.Answer.{Input, Logged, Logs, Output, StopsLog, ReportsFault, Untouched, roster_of}
-use Rattle.roster_cli.specs.Answer.{IsLogFailed, IsSilent, ReadsAndAnswers, StopsCommand, StopsRun, PrintsOutput}
+use Rattle.roster_answers.specs.Answer.{Input, Logged, Logs, Output, StopsLog, Untouched, roster_of}
+use Rattle.roster_cli.specs.Answer.{IsLogFailed, IsSilent, ReadsAndAnswers, ReportsTo, StopsCommand, StopsRun, PrintsOutput, out_of}
 use Rattle.roster_reports.specs.Lines.{Text}
 use Rattle.roster_answers.specs.Lines.{case_status, status_of}
 use Rattle.roster_answers.specs.declared.fault.Fault.{Fault}
 use Rattle.roster_answers.specs.declared.fault.Fault.TheVariants as fault
 use Rattle.roster_request.specs.declared.request.Command.{Command}
+use Rattle.roster_request.specs.declared.request.Request.{Request}
 
 no_device : (f : CaseFault) → case_status f ≡ 3 → ⊥
 no_device case.Memory h = cc
@@ -77,20 +78,20 @@ module _ {R W L : Type 0} (input : Input R) (output : Output W) (log : Output L)
   pub silent_done : ReadsAndAnswers input output log command None → IsSilent command → Untouched log
   silent_done done silent = subst (Logged log) (silent (meaning_of done.bytes done.answers.bundle) (roster_of done.bytes done.answers.bundle) done.answers.report done.answers.is) done.answers.logged
 
-module _ {R W L : Type 0} (input : Input R) (output : Output W) (log : Output L) (command : Command) (status : ℕ)
-    (done : status ≡ 0 → ReadsAndAnswers input output log command None) (stops : (status ≡ 0 → ⊥) → StopsRun input output log command status) where
+module _ {R W L : Type 0} (input : Input R) (output : Output W) (log : Output L) (request : Request) (status : ℕ)
+    (done : status ≡ 0 → ReadsAndAnswers input output log request.command None) (stops : (status ≡ 0 → ⊥) → StopsRun input output log request status) where
   abbrev met_log : Watched L → Output L
   met_log met = record log { after = met }
 
   pub read_failed : input.after.failures ≢ input.before.failures → (status ≡ 3) × Untouched output × Logs log.contents log.before log.after (codes "read failed\n")
   read_failed failed = go (cases_eq status 0)
     where
-      of : (s : StopsRun input output log command status) → Cause input output (met_log s.met) command s.fault
+      of : (s : StopsRun input output log request status) → Cause input output (met_log s.met) request.command s.fault
           → (status ≡ 3) × Untouched output × Logs log.contents log.before log.after (codes "read failed\n")
       of s (of_input is o l more) = (
         s.status_is ∙ ap status_of is,
         o,
-        subst (λ m. Logs log.contents m log.after (codes "read failed\n")) l (subst (ReportsFault log.contents s.met log.after) is s.reported),
+        subst (λ m. Logs log.contents m log.after (codes "read failed\n")) l (subst (ReportsTo (out_of request) log.contents s.met log.after) is s.reported),
       )
       of s (of_output is on more l) = absurd (failed on)
       of s (of_log is on o not_silent more) = absurd (failed on)
@@ -98,33 +99,33 @@ module _ {R W L : Type 0} (input : Input R) (output : Output W) (log : Output L)
 
       go : (status ≡ 0) ⊎ (status ≡ 0 → ⊥) → (status ≡ 3) × Untouched output × Logs log.contents log.before log.after (codes "read failed\n")
       go (inl zero) = absurd (failed (done zero).read.failures)
-      go (inr other) = of (stops other) (cause input output (met_log (stops other).met) command (stops other).fault (stops other).refused)
+      go (inr other) = of (stops other) (cause input output (met_log (stops other).met) request.command (stops other).fault (stops other).refused)
 
-  pub write_failed : output.after.failures ≢ output.before.failures → (status ≡ 3) × PrintsOutput log command
+  pub write_failed : output.after.failures ≢ output.before.failures → (status ≡ 3) × PrintsOutput log request
   write_failed failed = go (cases_eq status 0)
     where
-      of : (s : StopsRun input output log command status) → Cause input output (met_log s.met) command s.fault → (status ≡ 3) × PrintsOutput log command
+      of : (s : StopsRun input output log request status) → Cause input output (met_log s.met) request.command s.fault → (status ≡ 3) × PrintsOutput log request
       of s (of_input is o l more) = absurd (failed (ap (λ w. w.failures) o))
-      of s (of_output is on more l) = (s.status_is ∙ ap status_of is, record { met = s.met; silent = l; line = subst (ReportsFault log.contents s.met log.after) is s.reported })
+      of s (of_output is on more l) = (s.status_is ∙ ap status_of is, record { met = s.met; silent = l; line = subst (ReportsTo (out_of request) log.contents s.met log.after) is s.reported })
       of s (of_log is on o not_silent more) = absurd (failed (ap (λ w. w.failures) o))
       of s (of_none other on o) = absurd (failed (ap (λ w. w.failures) o))
 
-      go : (status ≡ 0) ⊎ (status ≡ 0 → ⊥) → (status ≡ 3) × PrintsOutput log command
+      go : (status ≡ 0) ⊎ (status ≡ 0 → ⊥) → (status ≡ 3) × PrintsOutput log request
       go (inl zero) = absurd (failed (done zero).answers.left.failures)
-      go (inr other) = of (stops other) (cause input output (met_log (stops other).met) command (stops other).fault (stops other).refused)
+      go (inr other) = of (stops other) (cause input output (met_log (stops other).met) request.command (stops other).fault (stops other).refused)
 
   abbrev Device : Type 0
-  Device = (input.after.failures ≡ one_more input.before.failures) ⊎ (output.after.failures ≡ one_more output.before.failures) ⊎ IsLogFailed log command
+  Device = (input.after.failures ≡ one_more input.before.failures) ⊎ (output.after.failures ≡ one_more output.before.failures) ⊎ IsLogFailed log request.command
 
   pub device : status ≡ 3 → Device
   device three = go (cases_eq status 0)
     where
-      of : (s : StopsRun input output log command status) → Cause input output (met_log s.met) command s.fault → Device
+      of : (s : StopsRun input output log request status) → Cause input output (met_log s.met) request.command s.fault → Device
       of s (of_input is o l more) = inl more
       of s (of_output is on more l) = inr (inl more)
-      of s (of_log is on o not_silent more) = inr (inr (record { not_silent = not_silent; failures = ap (λ w. w.failures) (subst (ReportsFault log.contents s.met log.after) is s.reported) ∙ more }))
+      of s (of_log is on o not_silent more) = inr (inr (record { not_silent = not_silent; failures = ap (λ w. w.failures) (subst (ReportsTo (out_of request) log.contents s.met log.after) is s.reported) ∙ more }))
       of s (of_none other on o) = absurd (other (sym s.status_is ∙ three))
 
       go : (status ≡ 0) ⊎ (status ≡ 0 → ⊥) → Device
       go (inl zero) = absurd (let bad : 0 ≡ 3 = sym zero ∙ three in cc)
-      go (inr other) = of (stops other) (cause input output (met_log (stops other).met) command (stops other).fault (stops other).refused)
+      go (inr other) = of (stops other) (cause input output (met_log (stops other).met) request.command (stops other).fault (stops other).refused)

@@ -1,5 +1,5 @@
 -- What a run answers.
-use Rattle.std.specs.Prelude.{◌≡◌, ℕ, ◌*◌, ◌<◌, ◌≤◌, ◌⊎◌, max, min, Bool, true, false, List, [], IfSome, Option, None, Some, length, option_map, string_bytes}
+use Rattle.std.specs.Prelude.{◌≡◌, ℕ, ◌*◌, ◌++◌, codes, ◌<◌, ◌≤◌, ◌⊎◌, max, min, Bool, true, false, List, [], IfSome, Option, None, Some, length, option_map, string_bytes}
 use Rattle.roster_text.specs.Io.{Watched, one_more}
 use Rattle.roster_bundle.specs.Limits.{most_bytes}
 use Rattle.roster_bundle.specs.declared.bundle.Bundle.{Bundle}
@@ -25,6 +25,7 @@ use Rattle.roster_answers.specs.declared.fault.Fault.{Fault}
 use Rattle.roster_answers.specs.declared.fault.Fault.TheVariants as fault
 use Rattle.roster_answers.specs.declared.instance.Instance.{Instance}
 use Rattle.roster_request.specs.declared.request.Command.{Command}
+use Rattle.roster_request.specs.declared.request.Request.{Request}
 use Rattle.roster_request.specs.declared.request.Command.TheVariants as command
 use Rattle.roster_answers.specs.Answer.{CommandEnd, HasFault, Input, IsBoundWithin, IsRefusedFor, IsTaken, IsWhoReport, Leaves, LeavesLog, Logs, Output, ReadsAll, Report, SpellsBundle, ReportsFault, Untouched, best_report, cost_report, improve_report, plain, roster_of}
 
@@ -128,6 +129,22 @@ abbrev pub IsPlanFor : {K : Type 0} → Course K → Instance → Report → Typ
 IsPlanFor course instance p =
     IsPlanReport course.searches course.from course.kicks_alone instance.case instance.roster p
 
+-- ---- the file to which the roster goes
+
+-- its path, if one is given
+abbrev pub out_of : Request → Option Text
+out_of request = option_map string_bytes request.out
+
+-- the line of an output that failed: with the path of its file, if it goes to one
+abbrev pub write_line : Option Text → Text
+write_line None = output_line
+write_line (Some path) = path ++ codes ": write failed\n"
+
+-- a fault is reported by its line, that of an output with its path
+abbrev pub ReportsTo : {L : Type 0} → Option Text → (L → Option Text) → Watched L → Watched L → Fault → Type 0
+ReportsTo out contents old new fault.Output = Logs contents old new (write_line out)
+ReportsTo out contents old new f = ReportsFault contents old new f
+
 -- ---- what is refused
 
 -- a command without a log
@@ -205,18 +222,18 @@ StopsCommand input output log command f =
 -- The run stopped at a fault, with its status. `met` is the log when the fault came; after that the fault is
 -- reported.
 pub record StopsRun {R W L : Type 0} (input : Input R) (output : Output W) (log : Output L)
-    (command : Command) (status : ℕ) : Type 0 where
+    (request : Request) (status : ℕ) : Type 0 where
   pub fault : Fault
   pub status_is : status ≡ status_of fault
   pub met : Watched L
-  pub refused : StopsCommand input output (record log { after = met }) command fault
-  pub reported : ReportsFault log.contents met log.after fault
+  pub refused : StopsCommand input output (record log { after = met }) request.command fault
+  pub reported : ReportsTo (out_of request) log.contents met log.after fault
 
 -- an output that failed was reported after the command's log
-pub record PrintsOutput {L : Type 0} (log : Output L) (command : Command) : Type 0 where
+pub record PrintsOutput {L : Type 0} (log : Output L) (request : Request) : Type 0 where
   pub met : Watched L
-  pub silent : IsSilent command → met ≡ log.before
-  pub line : Logs log.contents met log.after output_line
+  pub silent : IsSilent request.command → met ≡ log.before
+  pub line : Logs log.contents met log.after (write_line (out_of request))
 
 -- the log of a command that has one failed
 pub record IsLogFailed {L : Type 0} (log : Output L) (command : Command) : Type 0 where

@@ -1,7 +1,7 @@
 -- How the program begins and ends: the words that are read, the files that are opened, and what is left.
 -- `contents` is all that an output has taken, `held` the end of it that is still in the buffer, and `logged`
 -- what a log has.
-use Rattle.std.specs.Prelude.{◌≡◌, ◌≢◌, ℕ, ◌<◌, ◌⊎◌, ◌++◌, List, [], ◌∷◌, IfSome, None, Option, Ok, Err, Result, codes, length, map, string_bytes, vec_len}
+use Rattle.std.specs.Prelude.{◌≡◌, ◌≢◌, ℕ, ◌<◌, ◌⊎◌, ◌++◌, List, [], ◌∷◌, IfSome, None, Option, Ok, Err, Result, Some, codes, length, map, string_bytes, vec_len}
 use Rattle.std.specs.Borrow.{Bor}
 use Rattle.std.specs.Fn.{Called, Mut}
 use Rattle.std.specs.declared.alloc.Global.{Global}
@@ -12,15 +12,20 @@ use Rattle.std.specs.declared.io.ErrorKind.TheVariants.{OutOfMemory}
 use Rattle.std.specs.IoError.{error_kind}
 use Rattle.std.specs.Vec.Iter.{into_iter_items}
 use Rattle.std.specs.Io.KnownBytes.{Appends, Keeps}
+use Rattle.std.specs.Io.Buffered.{writer_buffer, writer_contents}
+use Rattle.std.specs.declared.io.buffered.BufWriter.{BufWriter}
+use Rattle.roster_out.specs.Places.{IsPut, late_contents, name_beside}
+use Rattle.roster_out.specs.Writers.{IsLastPut, IsUnwritten, LateWriter}
+use Rattle.roster_out.specs.declared.late.LateFile.{LateFile}
 use Rattle.roster_bundle.specs.declared.bundle.Bundle.{Bundle}
 use Rattle.roster_input.specs.JoinedBytes.{Left, joined_bytes}
 use Rattle.roster_text.specs.Io.{Watched}
 use Rattle.roster_text.specs.declared.fault.TextFault.{TextFault}
 use Rattle.roster_text.specs.declared.fault.TextFault.TheVariants as text
 use Rattle.roster_answers.specs.Answer.{IsTaken, Logged, Logs, Report, SpellsBundle, input_of, output_of}
-use Rattle.roster_answers.specs.Lines.{output_line, text_status}
-use Rattle.roster_cli.specs.Answer.{IsAnswer, IsAnswered, IsSilent, StopsRun, keep_of}
-use Rattle.roster_reports.specs.Lines.{Text, text_line}
+use Rattle.roster_answers.specs.Lines.{text_status}
+use Rattle.roster_cli.specs.Answer.{IsAnswer, IsAnswered, IsSilent, StopsRun, keep_of, out_of, write_line}
+use Rattle.roster_reports.specs.Lines.{Text, memory_line, text_line}
 use Rattle.roster_request.specs.CommandLine.{IsAsked, Refuses}
 use Rattle.roster_request.specs.declared.request.CliFault.{CliFault}
 use Rattle.roster_request.specs.declared.request.CliFault.TheVariants as cli
@@ -77,36 +82,36 @@ under_watch inner =
 
 -- A run over an input stopped with this status. `read` and `taken` are the input and the output after it.
 pub record StopsOver {In Out Log : Type 0} (remaining : In → Option Text) (contents : Out → Option Text)
-    (logged : Log → Option Text) (command : Command) (input : In) (status : ℕ) (output output_after : Out)
+    (logged : Log → Option Text) (request : Request) (input : In) (status : ℕ) (output output_after : Out)
     (log log_after : Watched Log) : Type 0 where
   pub read : Watched In
   pub taken : Watched Out
   pub stops : StopsRun (input_of remaining (under_watch input) read)
-      (output_of contents (under_watch output) taken) (output_of logged log log_after) command status
+      (output_of contents (under_watch output) taken) (output_of logged log log_after) request status
   pub left : output_after ≡ taken.inner
 
 -- The run was done, but what was in the output's buffer couldn't be sent on, and that is reported. `met` is
 -- the log when the run was done.
 pub record FailsToSend {In Out Log : Type 0} (remaining : In → Option Text) (contents : Out → Option Text)
-    (logged : Log → Option Text) (command : Command) (input : In) (status : ℕ) (output output_after : Out)
+    (logged : Log → Option Text) (request : Request) (input : In) (status : ℕ) (output output_after : Out)
     (log log_after : Watched Log) : Type 0 where
   pub read : Watched In
   pub taken : Watched Out
   pub met : Watched Log
   pub done : IsAnswered (input_of remaining (under_watch input) read)
-      (output_of contents (under_watch output) taken) (output_of logged log met) command
+      (output_of contents (under_watch output) taken) (output_of logged log met) request.command
   pub kept : Keeps (contents taken.inner) (contents output_after)
   pub status_is : status ≡ 3
-  pub reported : Logs logged met log_after output_line
+  pub reported : Logs logged met log_after (write_line (out_of request))
 
--- how a command ends over an input
+-- how the command of a request ends over an input
 pub record EndsOver {In Out Log : Type 0} (remaining : In → Option Text) (contents : Out → Option Text)
-    (held : Out → Text) (logged : Log → Option Text) (command : Command) (input : In) (status : ℕ)
+    (held : Out → Text) (logged : Log → Option Text) (request : Request) (input : In) (status : ℕ)
     (output output_after : Out) (log log_after : Watched Log) : Type 0 where
-  pub done : status ≡ 0 → ReadsAndSends contents held logged command (remaining input) output output_after
-      log log_after
-  pub stopped : status ≢ 0 → StopsOver remaining contents logged command input status output output_after
-      log log_after ⊎ FailsToSend remaining contents logged command input status output output_after
+  pub done : status ≡ 0 → ReadsAndSends contents held logged request.command (remaining input) output
+      output_after log log_after
+  pub stopped : status ≢ 0 → StopsOver remaining contents logged request input status output output_after
+      log log_after ⊎ FailsToSend remaining contents logged request input status output output_after
       log log_after
 
 -- ---- the files
@@ -168,15 +173,15 @@ IsUnopened _ = ⊥
 abbrev pub joined : {File : Type 0} → List File → Left File
 joined files = record { readers = files; failures = 0 }
 
--- a command ended over files, of which this holds; they are read one after the other
+-- a request's command ended over files, of which this holds; they are read one after the other
 pub record EndsOverFiles {File Out Log : Type 0} (are : List File → Type 0)
     (remaining : File → Option Text) (contents : Out → Option Text) (held : Out → Text)
-    (logged : Log → Option Text) (command : Command) (status : ℕ) (output output_after : Out)
+    (logged : Log → Option Text) (request : Request) (status : ℕ) (output output_after : Out)
     (log log_after : Watched Log) : Type 0 where
   pub files : List File
   pub files_are : are files
   pub ends : EndsOver (λ (left : Left File). joined_bytes remaining left.readers) contents held logged
-      command (joined files) status output output_after log log_after
+      request (joined files) status output output_after log log_after
 
 -- the files couldn't be opened, for a fault of which this holds; it is reported, and nothing is written
 pub record FailsToOpen {Out Log : Type 0} (fails : TextFault → Type 0) (logged : Log → Option Text)
@@ -188,15 +193,15 @@ pub record FailsToOpen {Out Log : Type 0} (fails : TextFault → Type 0) (logged
   pub same : output_after ≡ output
   pub reported : Logs logged log log_after (text_line fault)
 
--- how a request is answered: over the input, if it names no file, and else over its files
+-- how a request's command is answered: over the input, if it names no file, and else over its files
 abbrev pub EndsRequest : {In File Out Log : Type 0} → (List File → Type 0) → (TextFault → Type 0)
     → (In → Option Text) → (File → Option Text) → (Out → Option Text) → (Out → Text) → (Log → Option Text)
     → Request → In → ℕ → Out → Out → Watched Log → Watched Log → Type 0
 EndsRequest are fails remaining file_remaining contents held logged request input status output output_after
     log log_after =
-    ((vec_len request.files ≡ 0) × EndsOver remaining contents held logged request.command input status
+    ((vec_len request.files ≡ 0) × EndsOver remaining contents held logged request input status
     output output_after log log_after)
-    ⊎ ((0 < vec_len request.files) × (EndsOverFiles are file_remaining contents held logged request.command
+    ⊎ ((0 < vec_len request.files) × (EndsOverFiles are file_remaining contents held logged request
     status output output_after log log_after
     ⊎ FailsToOpen fails logged status output output_after log log_after))
 
@@ -211,6 +216,116 @@ OpensAndEnds {F} {In} {File} g opener opener_after remaining file_remaining cont
     (FailsToOpenAll g opener (map string_bytes request.files.items) opener_after) remaining file_remaining
     contents held logged request input status output output_after log log_after
 
+-- ---- the file to which the roster goes
+
+-- A command was answered into the file of this path: a writer to a file beside it took the answer, and after
+-- that the file was put in its place.
+pub record IsInFile {D Made Log : Type 0}
+    (ends : ℕ → LateWriter D Made → LateWriter D Made → Watched Log → Type 0) (puts : Made → Text → Type 0)
+    (path : Text) (log_after : Watched Log) : Type 0 where
+  pub number : ℕ
+  pub writer : LateWriter D Made
+  pub unwritten : IsUnwritten (name_beside path number) writer
+  pub written : LateWriter D Made
+  pub ended : ends 0 writer written log_after
+  pub put : IsLastPut puts (name_beside path number) written
+
+-- a command stopped with this status over such a writer
+pub record StopsBeside {D Made Log : Type 0}
+    (ends : ℕ → LateWriter D Made → LateWriter D Made → Watched Log → Type 0) (path : Text) (status : ℕ)
+    (log_after : Watched Log) : Type 0 where
+  pub number : ℕ
+  pub writer : LateWriter D Made
+  pub unwritten : IsUnwritten (name_beside path number) writer
+  pub written : LateWriter D Made
+  pub ended : ends status writer written log_after
+
+-- it was answered, but the file couldn't be put in its place, and that is reported
+pub record FailsToPut {D Made Log : Type 0}
+    (ends : ℕ → LateWriter D Made → LateWriter D Made → Watched Log → Type 0) (logged : Log → Option Text)
+    (path : Text) (status : ℕ) (log_after : Watched Log) : Type 0 where
+  pub met : Watched Log
+  pub done : StopsBeside ends path 0 met
+  pub status_is : status ≡ 3
+  pub reported : Logs logged met log_after (write_line (Some path))
+
+-- the line about an output that would go to an input
+abbrev pub input_line : Text → Text
+input_line path = path ++ codes ": is one of the inputs\n"
+
+-- nothing was read, since the file is one of the inputs, can't be written or lacks memory
+abbrev pub IsRefusedAt : {Log : Type 0} → (Log → Option Text) → Text → ℕ → Watched Log → Watched Log → Type 0
+IsRefusedAt logged path status log log_after =
+    ((status ≡ 2) × Logs logged log log_after (input_line path))
+    ⊎ ((status ≡ 3) × Logs logged log log_after (write_line (Some path)))
+    ⊎ ((status ≡ 4) × Logs logged log log_after memory_line)
+
+-- how a command ends whose answer goes to the file of this path
+pub record EndsAt {D Made Log : Type 0}
+    (ends : ℕ → LateWriter D Made → LateWriter D Made → Watched Log → Type 0) (puts : Made → Text → Type 0)
+    (logged : Log → Option Text) (path : Text) (status : ℕ) (log log_after : Watched Log) : Type 0 where
+  pub done : status ≡ 0 → IsInFile ends puts path log_after
+  pub stopped : status ≢ 0 → StopsBeside ends path status log_after
+      ⊎ FailsToPut ends logged path status log_after ⊎ IsRefusedAt logged path status log log_after
+
+-- a request ended over such a writer, as over any output
+abbrev pub EndsLate : {F In File D Made Log : Type 0} → Mut F (Bor Text × Unit {0}) (Result File Error)
+    → F → F → (In → Option Text) → (File → Option Text) → Option Text → (Made → Option Text)
+    → (Log → Option Text) → Request → In → Watched Log → ℕ → LateWriter D Made → LateWriter D Made
+    → Watched Log → Type 0
+EndsLate {F} {In} {File} {D} {Made} g opener opener_after remaining file_remaining fresh contents logged
+    request input log status writer written log_after =
+    OpensAndEnds g opener opener_after remaining file_remaining
+    (writer_contents (λ (late : LateFile D Made). late_contents fresh contents late.file)) writer_buffer
+    logged request input status writer written log log_after
+
+-- if a request names a file for its answer, it ended in this way
+abbrev pub EndsInFile : {F In File D Made Flushed Log : Type 0}
+    → Mut F (Bor Text × Unit {0}) (Result File Error) → F → F → (In → Option Text) → (File → Option Text)
+    → Option Text → (Made → Option Text) → (D → Made → Flushed → Type 0)
+    → (D → Flushed → Text → Text → Type 0) → D → (Log → Option Text) → Request → In → ℕ → Watched Log
+    → Watched Log → Type 0
+EndsInFile {F} {In} {File} {D} {Made} g opener opener_after remaining file_remaining fresh contents flushes
+    renames disk logged request input status log log_after =
+    IfSome (out_of request)
+    (λ path. EndsAt {D = D} {Made = Made}
+    (EndsLate {D = D} g opener opener_after remaining file_remaining fresh contents logged request input log)
+    (λ file name. IsPut flushes renames disk file name path) logged path status log log_after)
+
+-- if it names none, it ended over the output
+abbrev pub EndsOut : {F In File Out Log : Type 0} → Mut F (Bor Text × Unit {0}) (Result File Error) → F → F
+    → (In → Option Text) → (File → Option Text) → (Out → Option Text) → (Log → Option Text) → Request → In
+    → ℕ → BufWriter Out Global → BufWriter Out Global → Watched Log → Watched Log → Type 0
+EndsOut {F} {In} {File} g opener opener_after remaining file_remaining contents logged request input status
+    output output_after log log_after =
+    out_of request ≡ None
+    → OpensAndEnds g opener opener_after remaining file_remaining (writer_contents contents) writer_buffer
+    logged request input status output output_after log log_after
+
+-- the answer goes to the output, or else to the file of this path
+abbrev pub GoesTo : Option Text → Type 0 → (Text → Type 0) → Type 0
+GoesTo None to_output to_file = to_output
+GoesTo (Some path) to_output to_file = to_file path
+
+-- a command was done for some bytes, with the log of its report
+pub record IsDoneAway {Log : Type 0} (logged : Log → Option Text) (command : Command)
+    (log log_after : Watched Log) : Type 0 where
+  pub bytes : Text
+  pub bundle : Bundle
+  pub spelled : SpellsBundle bytes bundle
+  pub report : Report
+  pub is : IsAnswer command bytes bundle report
+  pub taken : IsTaken report (keep_of command) bytes bundle None
+  pub in_log : Logged (record { contents = logged; before = log; after = log_after }) report.log
+
+-- nothing went to the output; with status 0 the command is done
+pub record AnswersAway {Out Log : Type 0} (logged : Log → Option Text) (command : Command) (status : ℕ)
+    (output output_after : Out) (log log_after : Watched Log) : Type 0 where
+  pub same : output_after ≡ output
+  pub done : status ≡ 0 → IsDoneAway logged command log log_after
+
+-- ---- the words of a request
+
 -- the words are those of a request, which is answered over as many files as it names
 pub record AnswersRequest {In File Out Log : Type 0} (remaining : In → Option Text)
     (file_remaining : File → Option Text) (contents : Out → Option Text) (held : Out → Text)
@@ -218,8 +333,10 @@ pub record AnswersRequest {In File Out Log : Type 0} (remaining : In → Option 
     (output output_after : Out) (log log_after : Watched Log) : Type 0 where
   pub request : Request
   pub asked : IsAsked words request
-  pub ends : EndsRequest (λ (files : List File). length files ≡ length request.files.items) IsUnopened
-      remaining file_remaining contents held logged request input status output output_after log log_after
+  pub ends : GoesTo (out_of request)
+      (EndsRequest (λ (files : List File). length files ≡ length request.files.items) IsUnopened
+      remaining file_remaining contents held logged request input status output output_after log log_after)
+      (λ path. AnswersAway logged request.command status output output_after log log_after)
 
 -- the words are no request, and that was reported
 pub record RefusesWords {Out Log : Type 0} (contents : Out → Option Text) (held : Out → Text)

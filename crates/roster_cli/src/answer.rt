@@ -5,6 +5,7 @@ ghost use Rattle.roster_answers.specs.Answer.{FailsOnce, Logs, input_of, outcome
 ghost use Rattle.roster_cli.specs.Answer.{Answers, IsAnswered, IsLogFailed, IsSilent, StopsRun, PrintsOutput};
 
 use crate::commands::{keep_of, report};
+use crate::faults::report_to;
 use roster_answers::{Fault, keep_roster, read_instance, report_fault};
 use roster_instance::CaseFault;
 use roster_request::{Command, Request};
@@ -15,8 +16,9 @@ use std::io::{Read, Write};
 use std::time::Clock;
 
 /// Answers a request: reads the input to its end, writes the output, and answers the status. The command's
-/// log goes to `log`, all of it before the output begins, and after that the line of a fault. It has no
-/// clock, so a limit of time doesn't end it.
+/// log goes to `log`, all of it before the output begins, and after that the line of a fault. If the request
+/// names a file for the output, its path stands in the line of a write that fails. There is no clock, so a
+/// limit of time doesn't end it.
 pub fn run<R: Read, Out: Write, Log: Write>(
     alloc: Global,
     request: &Request,
@@ -35,14 +37,14 @@ pub fn run<R: Read, Out: Write, Log: Write>(
     // Otherwise there is a fault, with its status and its line.
     ensures refused { result ≢ 0 → StopsRun (input_of R.remaining input.old input.new)
         (output_of Out.contents output.old output.new)
-        (output_of Log.contents log.old log.new) request.now.command result }
+        (output_of Log.contents log.old log.new) request.now result }
 
     // A read or an output write that fails is reported as such. The only other cause of status 3 is a log
     // that fails.
     ensures read_failed { input.new.failures ≢ input.old.failures → (result ≡ 3)
         × (output.new ≡ output.old) × Logs Log.contents log.old log.new (codes "read failed\n") }
     ensures write_failed { output.new.failures ≢ output.old.failures → (result ≡ 3)
-        × PrintsOutput (output_of Log.contents log.old log.new) request.now.command }
+        × PrintsOutput (output_of Log.contents log.old log.new) request.now }
     ensures device { result ≡ 3 → FailsOnce input.old input.new ⊎ FailsOnce output.old output.new
         ⊎ IsLogFailed (output_of Log.contents log.old log.new) request.now.command }
 {
@@ -69,23 +71,23 @@ pub fn run_timed<K: Clock + Copy, R: Read, Out: Write, Log: Write>(
     // Otherwise there is a fault, with its status and its line.
     ensures refused { result ≢ 0 → StopsRun (input_of R.remaining input.old input.new)
         (output_of Out.contents output.old output.new)
-        (output_of Log.contents log.old log.new) request.now.command result }
+        (output_of Log.contents log.old log.new) request.now result }
 
     // A read or an output write that fails is reported as such. The only other cause of status 3 is a log
     // that fails.
     ensures read_failed { input.new.failures ≢ input.old.failures → (result ≡ 3)
         × (output.new ≡ output.old) × Logs Log.contents log.old log.new (codes "read failed\n") }
     ensures write_failed { output.new.failures ≢ output.old.failures → (result ≡ 3)
-        × PrintsOutput (output_of Log.contents log.old log.new) request.now.command }
+        × PrintsOutput (output_of Log.contents log.old log.new) request.now }
     ensures device { result ≡ 3 → FailsOnce input.old input.new ⊎ FailsOnce output.old output.new
         ⊎ IsLogFailed (output_of Log.contents log.old log.new) request.now.command }
 {
-    run_command(alloc, &request.command, clock, input, output, log)
+    run_command(alloc, request, clock, input, output, log)
 }
 
 fn run_command<K: Clock + Copy, R: Read, Out: Write, Log: Write>(
     alloc: Global,
-    command: &Command,
+    request: &Request,
     clock: K,
     input: &mut Watch<R>,
     output: &mut Watch<Out>,
@@ -93,18 +95,18 @@ fn run_command<K: Clock + Copy, R: Read, Out: Write, Log: Write>(
 ) -> u8
     ensures done { result ≡ 0 → IsAnswered (input_of R.remaining input.old input.new)
         (output_of Out.contents output.old output.new)
-        (output_of Log.contents log.old log.new) command.now }
+        (output_of Log.contents log.old log.new) request.now.command }
     ensures refused { result ≢ 0 → StopsRun (input_of R.remaining input.old input.new)
         (output_of Out.contents output.old output.new)
-        (output_of Log.contents log.old log.new) command.now result }
+        (output_of Log.contents log.old log.new) request.now result }
 {
     let source = match read_all(alloc, input) {
         Ok(source) => source,
         Err(fault) => return report_fault(Fault::Text(fault), log),
     };
-    match report_bytes(alloc, command, clock, &source, output, log) {
+    match report_bytes(alloc, &request.command, clock, &source, output, log) {
         Ok(()) => 0,
-        Err(fault) => report_fault(fault, log),
+        Err(fault) => report_to(fault, &request.out, log),
     }
 }
 

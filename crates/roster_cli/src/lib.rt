@@ -12,6 +12,8 @@
 
 mod answer;
 mod commands;
+mod faults;
+mod into_file;
 mod plan;
 mod polish;
 mod start;

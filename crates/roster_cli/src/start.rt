@@ -1,14 +1,18 @@
 //! The program from its words and streams to its status.
 
-ghost use Rattle.std.specs.Prelude.{◌≡◌, [], IfErr, IfOk, codes, map, string_bytes};
+ghost use Rattle.std.specs.Prelude.{◌≡◌, [], IfErr, IfOk, OnSome, map, option_map, string_bytes};
 ghost use Rattle.std.specs.Io.KnownBytes.{Keeps};
 ghost use Rattle.std.specs.Io.Buffered.{writer_buffer, writer_contents};
 ghost use Rattle.roster_answers.specs.Answer.{Logs};
-ghost use Rattle.roster_cli.specs.Start.{AnswersCommandLine, AnswersGiven, AnswersWords, AreUnread, AreWordsOf, EndsOver, FailsToOpenAll, IsUnopened, OpensAll, OpensAndEnds, PrintsWords, SendsText};
+ghost use Rattle.roster_cli.specs.Answer.{write_line};
+ghost use Rattle.roster_cli.specs.Start.{AnswersCommandLine, AnswersGiven, AnswersWords, AreUnread, AreWordsOf, EndsInFile, EndsOut, EndsOver, FailsToOpenAll, IsUnopened, OpensAll, OpensAndEnds, PrintsWords, SendsText};
 
 use crate::answer::run_timed;
+use crate::faults::refuse_write;
+use crate::into_file::answer_into;
 use roster_answers::{refuse, refuse_output};
 use roster_input::Joined;
+use roster_out::{Disk, SystemDisk};
 use roster_request::{CliFault, Request, request_of};
 use roster_text::{TextFault, Watch, write_bytes};
 use std::alloc::Global;
@@ -87,7 +91,11 @@ pub fn answer_words<R: Files + Clock + AllocGlobal, In: Read + Drop, Out: Write 
     match request_of(alloc, words) {
         Ok(request) => {
             let mut opener = |path: &str| fs::open(rt, path);
-            let means = Means { alloc, clock: rt };
+            let means = Means {
+                alloc,
+                clock: rt,
+                disk: SystemDisk { files: rt },
+            };
             answer_request(means, &request, &mut opener, input, output, log)
         }
         Err(fault) => refuse_words(fault, output, log),
@@ -123,28 +131,68 @@ fn help<Out: Write + Drop, Log: Write>(
         result.0 output result.1 log.old log.new }
 {
     match output.write_all(text) {
-        Ok(()) => flush(output, log),
+        Ok(()) => flush(output, &None, log),
         Err(_) => (refuse_output(log), output),
     }
 }
 
-/// What a run takes from the system: memory, and the clock by which it ends if it has a limit of time.
+/// What a run takes from the system: memory, the clock by which it ends if it has a limit of time, and the
+/// disk, if the roster goes to a file.
 #[derive(Clone, Copy)]
-struct Means<K> {
-    alloc: Global,
-    clock: K,
+pub(crate) struct Means<K, D> {
+    pub(crate) alloc: Global,
+    pub(crate) clock: K,
+    pub(crate) disk: D,
 }
 
 /// Answers a request over the files that it names, each opened by one call, or over `input` if it names none.
+/// The answer goes to `output`, or to the file that the request names for it.
 fn answer_request<
     K: Clock + Copy,
+    D: Disk + Copy,
     File: Read + Drop,
     F: FnMut(&str) -> io::Result<File>,
     In: Read + Drop,
     Out: Write + Drop,
     Log: Write,
 >(
-    means: Means<K>,
+    means: Means<K, D>,
+    request: &Request,
+    opener: &mut F,
+    input: In,
+    output: BufWriter<Out>,
+    log: &mut Watch<Log>,
+) -> (u8, BufWriter<Out>)
+    requires { F.IsAlwaysCallable opener.old }
+    ensures output { EndsOut F.FnMut opener.old opener.new In.remaining File.remaining Out.contents
+        Log.contents request.now input result.0 output result.1 log.old log.new }
+
+    // With a file for the answer, nothing goes to the output.
+    ensures apart { OnSome request.now.out (result.1 ≡ output) }
+    ensures file { EndsInFile F.FnMut opener.old opener.new In.remaining File.remaining D.fresh
+        D.File.contents D.Flushes D.Renames means.disk Log.contents request.now input result.0
+        log.old log.new }
+{
+    match &request.out {
+        None => answer_over(means, request, opener, input, output, log),
+        Some(path) => {
+            let status = answer_into(means, request, path.as_str(), opener, input, log);
+            (status, output)
+        }
+    }
+}
+
+/// The same with an output that is open.
+pub(crate) fn answer_over<
+    K: Clock + Copy,
+    D: Disk + Copy,
+    File: Read + Drop,
+    F: FnMut(&str) -> io::Result<File>,
+    In: Read + Drop,
+    Out: Write + Drop,
+    Log: Write,
+>(
+    means: Means<K, D>,
     request: &Request,
     opener: &mut F,
     input: In,
@@ -156,7 +204,7 @@ fn answer_request<
         (writer_contents Out.contents) writer_buffer Log.contents request.now input result.0 output
         result.1 log.old log.new }
 {
-    let Means { alloc, clock } = means;
+    let Means { alloc, clock, .. } = means;
     if request.files.is_empty() {
         return run_and_flush(alloc, request, clock, input, output, log);
     }
@@ -200,7 +248,7 @@ fn run_and_flush<K: Clock + Copy, In: Read + Drop, Out: Write + Drop, Log: Write
     log: &mut Watch<Log>,
 ) -> (u8, BufWriter<Out>)
     ensures { EndsOver In.remaining (writer_contents Out.contents) writer_buffer Log.contents
-        request.now.command input result.0 output result.1 log.old log.new }
+        request.now input result.0 output result.1 log.old log.new }
 {
     let mut input = Watch::new(input);
     let mut watched = Watch::new(output);
@@ -209,22 +257,23 @@ fn run_and_flush<K: Clock + Copy, In: Read + Drop, Out: Write + Drop, Log: Write
     if status != 0 {
         return (status, output);
     }
-    flush(output, log)
+    flush(output, &request.out, log)
 }
 
-/// Sends on what is still in the output's buffer.
+/// Sends on what is still in the buffer of the output, which goes to `out`, if that names a file.
 fn flush<Out: Write + Drop, Log: Write>(
     mut output: BufWriter<Out>,
+    out: &Option<String>,
     log: &mut Watch<Log>,
 ) -> (u8, BufWriter<Out>)
     ensures sent { result.0 ≡ 0 → (writer_buffer result.1 ≡ []) × (log.new ≡ log.old) }
     ensures failed { (result.0 ≡ 0 → ⊥) → (result.0 ≡ 3)
-        × Logs Log.contents log.old log.new (codes "write failed\n") }
+        × Logs Log.contents log.old log.new (write_line (option_map string_bytes out.now)) }
     ensures bytes { Keeps (writer_contents Out.contents output)
         (writer_contents Out.contents result.1) }
 {
     match output.flush() {
         Ok(()) => (0, output),
-        Err(_) => (refuse_output(log), output),
+        Err(_) => (refuse_write(out, log), output),
     }
 }

@@ -23,8 +23,11 @@ struct Shelf<'a> {
     words: &'a [&'a [u8]],
     texts: &'a [&'a str],
     /// What was done with the files, in decimal digits: for each file that was opened its number, counted
-    /// from 1, and a 9 for reads.
+    /// from 1, and a 9 for reads. For a file that is made it is a 4, for its writes a 5, for its flush a 6,
+    /// for its new name a 7, and for its end an 8.
     done: &'a Cell<u32>,
+    /// The digit of what fails, or 0.
+    fails: u32,
 }
 
 /// An open file.
@@ -32,6 +35,18 @@ struct Shelf<'a> {
 struct Sheet<'a> {
     rest: &'a [u8],
     done: &'a Cell<u32>,
+    fails: u32,
+}
+
+/// Does what this digit stands for, or fails to.
+fn try_to(done: &Cell<u32>, digit: u32, fails: u32) -> io::Result<()> {
+    if done.get() % 10 != digit {
+        note(done, digit);
+    }
+    if digit == fails {
+        return Err(ErrorKind::Other.into());
+    }
+    Ok(())
 }
 
 fn note(done: &Cell<u32>, digit: u32) {
@@ -54,12 +69,13 @@ impl Read for Sheet<'_> {
 }
 
 impl Write for Sheet<'_> {
-    fn write(&mut self, _buf: &[u8]) -> io::Result<usize> {
-        unsupported()
+    fn write(&mut self, buf: &[u8]) -> io::Result<usize> {
+        try_to(self.done, 5, self.fails)?;
+        Ok(buf.len())
     }
 
     fn flush(&mut self) -> io::Result<()> {
-        unsupported()
+        Ok(())
     }
 }
 
@@ -79,7 +95,7 @@ impl OpenFile for Sheet<'_> {
     }
 
     fn sync_all(&self) -> io::Result<()> {
-        unsupported()
+        try_to(self.done, 6, self.fails)
     }
 
     fn sync_data(&self) -> io::Result<()> {
@@ -96,6 +112,7 @@ impl<'a> Shelf<'a> {
         Ok(Sheet {
             rest: text.as_bytes(),
             done: self.done,
+            fails: self.fails,
         })
     }
 }
@@ -105,7 +122,15 @@ impl<'a> Files for Shelf<'a> {
 
     type Dir = &'a [u8];
 
-    fn open_file(&self, _how: &OpenOptions, path: &str) -> io::Result<Sheet<'a>> {
+    fn open_file(&self, how: &OpenOptions, path: &str) -> io::Result<Sheet<'a>> {
+        if how.asks_create_new() {
+            try_to(self.done, 4, self.fails)?;
+            return Ok(Sheet {
+                rest: b"",
+                done: self.done,
+                fails: self.fails,
+            });
+        }
         match path {
             "a" => self.opened(0, 1),
             "b" => self.opened(1, 2),
@@ -120,7 +145,7 @@ impl<'a> Files for Shelf<'a> {
     }
 
     fn metadata(&self, _path: &str) -> io::Result<Metadata> {
-        unsupported()
+        Err(ErrorKind::NotFound.into())
     }
 
     fn symlink_metadata(&self, _path: &str) -> io::Result<Metadata> {
@@ -131,12 +156,18 @@ impl<'a> Files for Shelf<'a> {
         unsupported()
     }
 
-    fn rename(&self, _from: &str, _to: &str) -> io::Result<()> {
-        unsupported()
+    fn rename(&self, from: &str, to: &str) -> io::Result<()> {
+        if from != "x.0.part" || to != "x" {
+            return unsupported();
+        }
+        try_to(self.done, 7, self.fails)
     }
 
-    fn remove_file(&self, _path: &str) -> io::Result<()> {
-        unsupported()
+    fn remove_file(&self, path: &str) -> io::Result<()> {
+        if path != "x.0.part" {
+            return unsupported();
+        }
+        try_to(self.done, 8, self.fails)
     }
 
     fn create_dir(&self, _path: &str) -> io::Result<()> {
@@ -244,6 +275,7 @@ fn shows(alloc: Global, words: &[&[u8]], done: u32, end: End<'_>) -> Result<bool
         words,
         texts: &[MINI, "", ""],
         done: &did,
+        fails: 0,
     };
     let is_end = ends(alloc, &shelf, "", false, end)?;
     Ok(is_end && did.get() == done)
@@ -275,6 +307,37 @@ fn a_second_file_without_memory(rt: HostRuntime) -> Result<(), Fail> {
     Ok(())
 }
 
+/// Whether the best row over mini, with the file `x` for the roster, ends with this status and log, if what
+/// the digit stands for fails, and did this with the files.
+fn puts(alloc: Global, fails: u32, done: u32, (status, log): (u8, &str)) -> Result<bool, Fail> {
+    let did = Cell::new(0);
+    let shelf = Shelf {
+        words: &[b"roster", b"best", b"--nurse", b"Ann", b"--out", b"x", b"a"],
+        texts: &[MINI],
+        done: &did,
+        fails,
+    };
+    let is_end = ends(alloc, &shelf, "", false, (status, "", log))?;
+    Ok(is_end && did.get() == done)
+}
+
+#[test]
+fn a_file_for_the_roster(rt: HostRuntime) -> Result<(), Fail> {
+    let log = "start 470\nbest Ann 180\n";
+    assert!(rt; puts(rt.alloc(), 0, 48_194_567, (0, log))?);
+    Ok(())
+}
+
+#[test]
+fn a_file_that_fails_at_each_step(rt: HostRuntime) -> Result<(), Fail> {
+    let log = "start 470\nbest Ann 180\nx: write failed\n";
+    assert!(rt; puts(rt.alloc(), 4, 4, (3, "x: write failed\n"))?);
+    assert!(rt; puts(rt.alloc(), 5, 4_819_458, (3, log))?);
+    assert!(rt; puts(rt.alloc(), 6, 48_194_568, (3, log))?);
+    assert!(rt; puts(rt.alloc(), 7, 481_945_678, (3, log))?);
+    Ok(())
+}
+
 /// Whether `show` over mini on standard input ends in this way.
 fn shows_input(alloc: Global, flush_fails: bool, end: End<'_>) -> Result<bool, Fail> {
     let did = Cell::new(0);
@@ -282,6 +345,7 @@ fn shows_input(alloc: Global, flush_fails: bool, end: End<'_>) -> Result<bool, F
         words: &[b"roster", b"show"],
         texts: &[],
         done: &did,
+        fails: 0,
     };
     ends(alloc, &shelf, MINI, flush_fails, end)
 }
@@ -301,7 +365,11 @@ fn asks_for_run(alloc: Global, words: &[&str], (rounds, from): (u16, u16), files
     let Request {
         command,
         files: given,
-    } = request;
+        out: None,
+    } = request
+    else {
+        return false;
+    };
     matches!(command, Command::Improve { rounds: some, from: first, keep: 0 }
         if some == rounds && first == from)
         && given.iter().map(|it| it.as_str()).eq(files.iter().copied())

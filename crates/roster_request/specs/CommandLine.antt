@@ -50,6 +50,10 @@ shift_rule = given_rule (codes "shift")
 abbrev pub skill_rule : Rule
 skill_rule = value_rule (codes "skill")
 
+-- the file to which the roster goes, which may be left out
+abbrev pub out_rule : Rule
+out_rule = value_rule (codes "out")
+
 -- a number from 0 to the greatest, with the default that it has if it isn't given
 abbrev pub number_rule : Text → ℕ → Text → Rule
 number_rule name most default = record (value_rule name) {
@@ -121,7 +125,7 @@ searching name = with_rule (with_rule (with_rule (new_app name) searches_rule) s
 -- the command `plan`
 abbrev pub plan : App
 plan =
-    own_command_of (searches_rule ∷ seconds_rule ∷ seed_rule ∷ from_rule ∷ keep_rule ∷ [])
+    own_command_of (searches_rule ∷ seconds_rule ∷ seed_rule ∷ out_rule ∷ from_rule ∷ keep_rule ∷ [])
     (codes "plan")
 
 -- the command `who`
@@ -141,12 +145,12 @@ bare = record {
 abbrev pub commands : List Shape
 commands =
     (command_of (codes "show")).top ∷ (report_of (codes "cost")).top ∷ (report_of (codes "sizes")).top
-    ∷ (own_command_of (nurse_rule ∷ from_rule ∷ keep_rule ∷ []) (codes "best")).top
-    ∷ (own_command_of (rounds_rule ∷ from_rule ∷ keep_rule ∷ []) (codes "improve")).top
+    ∷ (own_command_of (nurse_rule ∷ out_rule ∷ from_rule ∷ keep_rule ∷ []) (codes "best")).top
+    ∷ (own_command_of (rounds_rule ∷ out_rule ∷ from_rule ∷ keep_rule ∷ []) (codes "improve")).top
     ∷ (own_command_of (rounds_rule ∷ nodes_rule ∷ seconds_rule ∷ from_rule ∷ keep_rule ∷ [])
     (codes "bound")).top
     ∷ (own_command_of
-    (searches_rule ∷ seconds_rule ∷ seed_rule ∷ kicks_rule ∷ from_rule ∷ keep_rule ∷ [])
+    (searches_rule ∷ seconds_rule ∷ seed_rule ∷ kicks_rule ∷ out_rule ∷ from_rule ∷ keep_rule ∷ [])
     (codes "polish")).top
     ∷ plan.top ∷ who.top ∷ []
 
@@ -322,12 +326,13 @@ IsInRange (command.Who day shift skill from json) = from ≤ most_from
 IsInRange _ = Unit {0}
 
 -- the command that was met, by its name and its matches, is that of the request, with its arguments and its
--- files
+-- files, and the file to which the roster goes, if one is given
 pub record IsAskedIn (met : Option (Text × List Row)) (r : Request) : Type 0 where
   pub rows : List Row
   pub command : met ≡ Some (name_of r.command, rows)
   pub arguments : HasArguments r.command rows
   pub files : map string_bytes r.files.items ≡ files_in rows
+  pub out : first_of (codes "out") rows ≡ option_map string_bytes r.out
 
 -- the request is what clap's matches give for the words
 abbrev pub IsAsked : List Text → Request → Type 0

@@ -3,13 +3,13 @@
 ghost use Rattle.std.specs.Prelude.{◌≡◌, [], ◌∷◌, codes, drop, IfOk, IsOkAnd, false, true};
 ghost use Rattle.std.specs.List.{fold};
 ghost use Rattle.clap.specs.Words.{app_of, new_app, rule_of, with_rule, with_subcommand};
-ghost use Rattle.roster_request.specs.CommandLine.{bare, command_of, commands, files_rule, flag_rule, from_rule, given_rule, json_rule, keep_rule, kicks_rule, nodes_rule, number_rule, optional_rule, own_command_of, nurse_rule, plan, program, report_of, rounds_rule, searches_rule, searching, seconds_rule, seed_rule, skill_rule, value_rule, who};
+ghost use Rattle.roster_request.specs.CommandLine.{bare, command_of, commands, files_rule, flag_rule, from_rule, given_rule, json_rule, keep_rule, kicks_rule, nodes_rule, number_rule, optional_rule, out_rule, own_command_of, nurse_rule, plan, program, report_of, rounds_rule, searches_rule, searching, seconds_rule, seed_rule, skill_rule, value_rule, who};
 
 use crate::texts::{
     ABOUT, BEST, BEST_HELP, BOUND, BOUND_HELP, COST, COST_HELP, EXAMPLES, FIRST_WEEK, IMPROVE,
-    IMPROVE_HELP, JSON_LINES, KEPT_POINTS, KICKS_ALONE, NODE_COUNT, NURSE_NAME, PLAN, PLAN_HELP,
-    POLISH, POLISH_HELP, ROUND_COUNT, SEARCH_COUNT, SECOND_COUNT, SEED_NUMBER, SHIFT_NAME, SHOW,
-    SHOW_HELP, SIZES, SIZES_HELP, SKILL_NAME, TEXTS, WEEK_AND_DAY, WHO, WHO_HELP,
+    IMPROVE_HELP, JSON_LINES, KEPT_POINTS, KICKS_ALONE, NODE_COUNT, NURSE_NAME, OUT_FILE, PLAN,
+    PLAN_HELP, POLISH, POLISH_HELP, ROUND_COUNT, SEARCH_COUNT, SECOND_COUNT, SEED_NUMBER,
+    SHIFT_NAME, SHOW, SHOW_HELP, SIZES, SIZES_HELP, SKILL_NAME, TEXTS, WEEK_AND_DAY, WHO, WHO_HELP,
 };
 use clap::builder::ValueParser;
 use clap::{Arg, ArgAction, Command};
@@ -27,6 +27,9 @@ pub(crate) const DAY: &str = "day";
 pub(crate) const SHIFT: &str = "shift";
 
 pub(crate) const SKILL: &str = "skill";
+
+/// The name of the option for the file to which the roster goes.
+pub(crate) const OUT: &str = "out";
 
 /// The name of the flag for kicks only.
 pub(crate) const KICKS: &str = "kicks";
@@ -207,12 +210,13 @@ fn with_command<'a>(program: Made<'a>, command: Made<'a>) -> Made<'a>
 
 /// The command `best`.
 fn best_command<'a>(alloc: Global) -> Made<'a>
-    ensures { IfOk result (λ c. app_of c ≡ own_command_of (nurse_rule ∷ from_rule ∷ keep_rule ∷ [])
+    ensures { IfOk result (λ c. app_of c ≡ own_command_of
+        (nurse_rule ∷ out_rule ∷ from_rule ∷ keep_rule ∷ [])
         (codes "best")) }
 {
     let nurse = given_arg(alloc, NURSE, "NAME", NURSE_NAME);
     let with_nurse = command(alloc, "best", BEST, BEST_HELP).arg(nurse);
-    with_weeks(alloc, with_nurse)
+    with_weeks(alloc, with_out(alloc, with_nurse))
 }
 
 /// The command `who`.
@@ -228,11 +232,13 @@ fn who_command<'a>(alloc: Global) -> Made<'a>
 
 /// The command `improve`.
 fn improve_command<'a>(alloc: Global) -> Made<'a>
-    ensures { IfOk result (λ c. app_of c ≡ own_command_of (rounds_rule ∷ from_rule ∷ keep_rule ∷ [])
+    ensures { IfOk result (λ c. app_of c ≡ own_command_of
+        (rounds_rule ∷ out_rule ∷ from_rule ∷ keep_rule ∷ [])
         (codes "improve")) }
 {
     let command = Ok(command(alloc, "improve", IMPROVE, IMPROVE_HELP));
-    with_weeks(alloc, with_number(alloc, command, ROUNDS))
+    let with_rounds = with_number(alloc, command, ROUNDS);
+    with_weeks(alloc, with_out(alloc, with_rounds))
 }
 
 /// The command `bound`.
@@ -249,11 +255,12 @@ fn bound_command<'a>(alloc: Global) -> Made<'a>
 /// The command `polish`.
 fn polish_command<'a>(alloc: Global) -> Made<'a>
     ensures { IfOk result (λ c. app_of c ≡ own_command_of
-        (searches_rule ∷ seconds_rule ∷ seed_rule ∷ kicks_rule ∷ from_rule ∷ keep_rule ∷ [])
+        (searches_rule ∷ seconds_rule ∷ seed_rule ∷ kicks_rule ∷ out_rule ∷ from_rule ∷ keep_rule ∷ [])
         (codes "polish")) }
 {
     let searching = searching_command(alloc, "polish", POLISH, POLISH_HELP);
-    with_weeks(alloc, with_kicks(alloc, searching))
+    let with_kicks = with_kicks(alloc, searching);
+    with_weeks(alloc, with_out(alloc, with_kicks))
 }
 
 /// The command `plan`.
@@ -261,7 +268,7 @@ fn plan_command<'a>(alloc: Global) -> Made<'a>
     ensures { IfOk result (λ c. app_of c ≡ plan) }
 {
     let searching = searching_command(alloc, "plan", PLAN, PLAN_HELP);
-    with_weeks(alloc, searching)
+    with_weeks(alloc, with_out(alloc, searching))
 }
 
 /// A command with a number of searches, with seconds and a seed, before its other arguments.
@@ -312,6 +319,14 @@ fn with_skill<'a>(alloc: Global, command: Made<'a>) -> Made<'a>
         (λ before. app_of c ≡ with_rule (app_of before) skill_rule)) }
 {
     command?.arg(skill_arg(alloc))
+}
+
+/// A command whose roster may go to a file.
+fn with_out<'a>(alloc: Global, command: Made<'a>) -> Made<'a>
+    ensures { IfOk result (λ c. IsOkAnd command.entry
+        (λ before. app_of c ≡ with_rule (app_of before) out_rule)) }
+{
+    command?.arg(out_arg(alloc))
 }
 
 /// A command with one more number that has a default.
@@ -383,6 +398,14 @@ fn skill_arg<'a>(alloc: Global) -> Arg<'a>
     ensures local { result.global ≡ false }
 {
     value_arg(alloc, SKILL, "NAME").help(SKILL_NAME)
+}
+
+/// The file to which the roster goes, which may be left out.
+fn out_arg<'a>(alloc: Global) -> Arg<'a>
+    ensures rule { rule_of result ≡ out_rule }
+    ensures local { result.global ≡ false }
+{
+    value_arg(alloc, OUT, "FILE").help(OUT_FILE)
 }
 
 /// A flag.

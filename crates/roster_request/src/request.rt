@@ -82,11 +82,13 @@ pub enum Command {
     },
 }
 
-/// A command with the files that it reads, in order. With none it reads standard input.
+/// A command with the files that it reads, in order. With none it reads standard input. If `out` names a
+/// file, the roster goes there, and not to standard output.
 #[derive(Debug, Drop)]
 pub struct Request {
     pub command: Command,
     pub files: Vec<String>,
+    pub out: Option<String>,
 }
 
 /// Why words are no request.

@@ -113,6 +113,12 @@ another shift, to off, or from off; another skill is free) costs N points more,
 so that the roster stays much as it is. Then the log begins with a line
 'keep N', and its numbers include these points.
 
+With --out FILE, the rosters go to FILE, and standard output stays empty. They
+are written to a file beside it, which is flushed to the disk and renamed onto
+FILE once it is whole, so that FILE has all of them, or what it had before. A
+FILE that is one of the inputs is refused, and so is one in a folder that can't
+be written.
+
 What isn't promised: that this is the best roster, since the others' rows stay;
 that it is best for two nurses at once; how long the search takes. For its
 memory and its greatest number of extensions, see 'roster sizes'.
@@ -160,6 +166,12 @@ With --keep N, each day of a nurse that changes from the given roster (to
 another shift, to off, or from off; another skill is free) costs N points more,
 so that the roster stays much as it is. Then the log begins with a line
 'keep N', and its numbers include these points.
+
+With --out FILE, the rosters go to FILE, and standard output stays empty. They
+are written to a file beside it, which is flushed to the disk and renamed onto
+FILE once it is whole, so that FILE has all of them, or what it had before. A
+FILE that is one of the inputs is refused, and so is one in a folder that can't
+be written.
 
 What isn't promised: that these are the best rosters of all, settled or not,
 since changing two rows at once may still save something; how long the run
@@ -308,6 +320,12 @@ another shift, to off, or from off; another skill is free) costs N points more,
 so that the roster stays much as it is. Then the log begins with a line
 'keep N', and its numbers include these points.
 
+With --out FILE, the rosters go to FILE, and standard output stays empty. They
+are written to a file beside it, which is flushed to the disk and renamed onto
+FILE once it is whole, so that FILE has all of them, or what it had before. A
+FILE that is one of the inputs is refused, and so is one in a folder that can't
+be written.
+
 What isn't promised: how cheap the rosters get, for which see 'roster bound';
 how long the run takes. For its memory and the greatest number of extensions for
 a nurse, see 'roster sizes'.
@@ -382,6 +400,12 @@ another shift, to off, or from off; another skill is free) costs N points more,
 so that the roster stays much as it is. Then the log begins with a line
 'keep N', and its numbers include these points.
 
+With --out FILE, the rosters go to FILE, and standard output stays empty. They
+are written to a file beside it, which is flushed to the disk and renamed onto
+FILE once it is whole, so that FILE has all of them, or what it had before. A
+FILE that is one of the inputs is refused, and so is one in a folder that can't
+be written.
+
 What isn't promised: that a roster is found if there is one; how cheap the
 rosters get, for which see 'roster bound'; how long the run takes. For its
 memory and the greatest number of extensions for a nurse, see 'roster sizes'.
@@ -401,6 +425,9 @@ pub(crate) const WEEK_AND_DAY: &str =
     "The day of the shift: the number of its week, from 0, and Mon to Sun, as in 1:Wed";
 
 pub(crate) const SHIFT_NAME: &str = "The shift's name in the scenario, letter for letter";
+
+pub(crate) const OUT_FILE: &str =
+    "Write the rosters to FILE, whole or not at all; standard output then stays empty";
 
 pub(crate) const SKILL_NAME: &str =
     "The skill's name in the scenario; if it is not given, any that the nurse has";

@@ -6,7 +6,7 @@ ghost use Rattle.roster_request.specs.CommandLine.{AreSeconds, HasArguments, Has
 ghost use Rattle.roster_request.specs.Limits.{most_from, most_keep, most_nodes, most_rounds, most_searches};
 
 use crate::program::{
-    DAY, FILES, FROM, JSON, KEEP, KICKS, NODES, NURSE, NumberOption, OptionalNumber, ROUNDS,
+    DAY, FILES, FROM, JSON, KEEP, KICKS, NODES, NURSE, NumberOption, OUT, OptionalNumber, ROUNDS,
     SEARCHES, SECONDS, SEED, SHIFT, SKILL, program,
 };
 use crate::request::{CliFault, Command, Request};
@@ -18,7 +18,8 @@ use std::convert::AsStr;
 
 /// What the words of a command line ask for. The program's name is the first of them.
 pub fn request_of<S: AsStr>(alloc: Global, words: &[S]) -> Result<Request, CliFault>
-    // The command with its arguments and the files are those that clap's matches give for the words.
+    // The command with its arguments, the files and the file for the roster are those that clap's matches
+    // give for the words.
     ensures request { IfOk result (IsAsked (map S.text words.now)) }
     // The rounds, the branchings, the searches and the seconds of a run, the first week that may change, and
     // the points are within their limits.
@@ -56,6 +57,7 @@ fn request_in(alloc: Global, matches: &ArgMatches<'_>) -> Result<Request, CliFau
     Ok(Request {
         command: command_in(alloc, name, given)?,
         files: files_of(alloc, given)?,
+        out: text_if_given(alloc, given, OUT)?,
     })
 }
 

@@ -141,6 +141,7 @@ fn ends(
     let request = Request {
         command: command_of(alloc, name)?,
         files: Vec::new(alloc),
+        out: None,
     };
     let (mut output_buffer, mut log_buffer) = ([0; 200], [0; 200]);
     let output_buffer = &mut output_buffer[..room.output.min(200)];

@@ -11,6 +11,7 @@ fn show(alloc: Global, text: &[u8]) -> (u8, Vec<u8>, Vec<u8>) {
     let request = Request {
         command: Command::Show,
         files: Vec::new(alloc),
+        out: None,
     };
     let mut input = Watch::new(text);
     let mut output = Watch::new(Vec::new(alloc));

@@ -36,6 +36,7 @@ fn run_by(
             keep: 0,
         },
         files: Vec::new(alloc),
+        out: None,
     };
     let text = changed(alloc, &CROSSED)?;
     let (mut output_buffer, mut log_buffer) = ([0; 500], [0; 500]);

@@ -31,6 +31,7 @@ fn run_by(
     let request = Request {
         command,
         files: Vec::new(alloc),
+        out: None,
     };
     let text = changed(alloc, changes)?;
     let (mut output_buffer, mut log_buffer) = ([0; 500], [0; 500]);

@@ -19,12 +19,12 @@ returns-in-Err-clause-refused g c = λ other. record {
 pub returns-clause-refused : goal.returns-clause-refused
 returns-clause-refused g c = λ other. record {
   fault = c.in-Err-report_bytes.fault;
-  status_is = c.report_fault-in-Err-report_bytes.ensures.status;
+  status_is = c.report_to.ensures.status;
   met = c.report_bytes.new.log;
   refused = inr (record {
     bytes = c.deref.result.now;
     read = record { all = search rules; end = search rules; kept = search rules; failures = search rules };
     answers = c.in-Err-report_bytes.ensures;
   });
-  reported = c.report_fault-in-Err-report_bytes.ensures.line;
+  reported = c.report_to.ensures.line;
 }

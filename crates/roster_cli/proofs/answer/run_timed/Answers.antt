@@ -15,4 +15,4 @@ returns-clause-status g c = go (cases_eq c.run_command.result 0)
 pub returns-clause-write_failed : goal.returns-clause-write_failed
 returns-clause-write_failed g c =
     write_failed (record { remaining = g.R.Read.remaining; before = c.args.input.now; after = c.run_command.new.input }) (record { contents = g.Out.Write.contents; before = c.args.output.now; after = c.run_command.new.output })
-    (record { contents = g.Log.Write.contents; before = c.args.log.now; after = c.run_command.new.log }) c.args.request.now.command c.run_command.result c.run_command.ensures.done c.run_command.ensures.refused
+    (record { contents = g.Log.Write.contents; before = c.args.log.now; after = c.run_command.new.log }) c.args.request.now c.run_command.result c.run_command.ensures.done c.run_command.ensures.refused

@@ -7,7 +7,7 @@ pub returns-then-status-ne0 : goal.returns-then-status-ne0
 returns-then-status-ne0 g c = record {
   done = λ zero. absurd (c.if-status-ne0.true zero);
   stopped = λ some.
-      stops_over (writer_contents g.Out.Write.contents) writer_buffer g.Log.Write.contents c.args.request.now.command g.In.Read.remaining
+      stops_over (writer_contents g.Out.Write.contents) writer_buffer g.Log.Write.contents c.args.request.now g.In.Read.remaining
       c.new-input.result c.run_timed-status.new.input c.new-watched.result c.run_timed-status.new.output c.args.log.now c.run_timed-status.new.log
       c.args.input c.args.output c.into_inner-output.result c.run_timed-status.result
       (c.run_timed-status.ensures.refused some) c.new-input.ensures c.new-watched.ensures c.into_inner-output.ensures;
@@ -17,7 +17,7 @@ pub returns : goal.returns
 returns g c = record {
   done = λ zero.
       let sent = c.flush.ensures.sent zero in
-      done_once_flushed (writer_contents g.Out.Write.contents) writer_buffer g.Log.Write.contents c.args.request.now.command g.In.Read.remaining
+      done_once_flushed (writer_contents g.Out.Write.contents) writer_buffer g.Log.Write.contents c.args.request.now g.In.Read.remaining
       c.new-input.result c.run_timed-status.new.input c.new-watched.result c.run_timed-status.new.output c.args.log.now c.run_timed-status.new.log
       c.args.input c.args.output c.into_inner-output.result c.flush.result.1 c.flush.new.log
       (c.run_timed-status.ensures.done c.if-status-ne0.false) (c.run_timed-status.ensures.silent c.if-status-ne0.false)
@@ -25,7 +25,7 @@ returns g c = record {
       c.flush.ensures.bytes sent.0 sent.1;
   stopped = λ some.
       let failed = c.flush.ensures.failed some in
-      fails_to_send (writer_contents g.Out.Write.contents) writer_buffer g.Log.Write.contents c.args.request.now.command g.In.Read.remaining
+      fails_to_send (writer_contents g.Out.Write.contents) writer_buffer g.Log.Write.contents c.args.request.now g.In.Read.remaining
       c.new-input.result c.run_timed-status.new.input c.new-watched.result c.run_timed-status.new.output c.args.log.now c.run_timed-status.new.log
       c.args.input c.args.output c.into_inner-output.result c.flush.result.1 c.flush.new.log c.flush.result.0
       (c.run_timed-status.ensures.done c.if-status-ne0.false) c.new-input.ensures c.new-watched.ensures c.into_inner-output.ensures

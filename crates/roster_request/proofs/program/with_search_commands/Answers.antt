@@ -1,20 +1,20 @@
 use Rattle.std.proofs.Common.{[], ◌∷◌, codes, refl}
 use Rattle.clap.specs.Words.{App, with_subcommand}
-use Rattle.roster_request.specs.CommandLine.{from_rule, keep_rule, kicks_rule, nodes_rule, nurse_rule, own_command_of, plan, rounds_rule, searches_rule, seconds_rule, seed_rule, who}
+use Rattle.roster_request.specs.CommandLine.{from_rule, keep_rule, kicks_rule, nodes_rule, nurse_rule, out_rule, own_command_of, plan, rounds_rule, searches_rule, seconds_rule, seed_rule, who}
 use Rattle.roster_request.proofs.CommandLineLemmas.{adds_known, made_by_both}
 use Rattle.roster_request.proofs.program.with_search_commands.Goals as goal
 
 abbrev best : App
-best = own_command_of (nurse_rule ∷ from_rule ∷ keep_rule ∷ []) (codes "best")
+best = own_command_of (nurse_rule ∷ out_rule ∷ from_rule ∷ keep_rule ∷ []) (codes "best")
 
 abbrev improve : App
-improve = own_command_of (rounds_rule ∷ from_rule ∷ keep_rule ∷ []) (codes "improve")
+improve = own_command_of (rounds_rule ∷ out_rule ∷ from_rule ∷ keep_rule ∷ []) (codes "improve")
 
 abbrev bound : App
 bound = own_command_of (rounds_rule ∷ nodes_rule ∷ seconds_rule ∷ from_rule ∷ keep_rule ∷ []) (codes "bound")
 
 abbrev polish : App
-polish = own_command_of (searches_rule ∷ seconds_rule ∷ seed_rule ∷ kicks_rule ∷ from_rule ∷ keep_rule ∷ []) (codes "polish")
+polish = own_command_of (searches_rule ∷ seconds_rule ∷ seed_rule ∷ kicks_rule ∷ out_rule ∷ from_rule ∷ keep_rule ∷ []) (codes "polish")
 
 -- a program with this command too
 abbrev step : App → App → App

@@ -1,0 +1,61 @@
+-- How a command ends whose answer goes to a file.
+use Rattle.std.proofs.Common.{◌≡◌, ◌∙◌, ℕ, Option, Some, inl, inr, refl, subst, sym}
+use Rattle.std.specs.Prelude.{IfSome}
+use Rattle.roster_text.specs.Io.{Watched}
+use Rattle.roster_out.specs.Places.{name_beside}
+use Rattle.roster_out.specs.Writers.{IsLastPut, IsUnwritten, LateWriter}
+use Rattle.roster_answers.specs.Answer.{Logs}
+use Rattle.roster_reports.specs.Lines.{Text, memory_line}
+use Rattle.roster_cli.specs.Answer.{write_line}
+use Rattle.roster_cli.specs.Start.{EndsAt, input_line}
+
+-- what holds of a path that is named
+pub at_path : (P : Text → Type 0) (out : Option Text) (path : Text) → out ≡ Some path → P path → IfSome out P
+at_path P out path named p = subst (λ o. IfSome o P) (sym named) p
+
+module _ {D Made Log : Type 0} (ends : ℕ → LateWriter D Made → LateWriter D Made → Watched Log → Type 0) (puts : Made → Text → Type 0) (logged : Log → Option Text) (path : Text) (log : Watched Log) where
+  pub input_refused : (status : ℕ) (after : Watched Log) → status ≡ 2 → Logs logged log after (input_line path) → EndsAt ends puts logged path status log after
+  input_refused status after two line = record {
+    done = λ zero. absurd (let bad : 0 ≡ 2 = sym zero ∙ two in cc);
+    stopped = λ other. inr (inr (inl (two, line)));
+  }
+
+  pub write_refused : (out : Option Text) → out ≡ Some path → (status : ℕ) (after : Watched Log) → status ≡ 3 → Logs logged log after (write_line out) → EndsAt ends puts logged path status log after
+  write_refused out named status after three line = record {
+    done = λ zero. absurd (let bad : 0 ≡ 3 = sym zero ∙ three in cc);
+    stopped = λ other. inr (inr (inr (inl (three, subst (λ o. Logs logged log after (write_line o)) named line))));
+  }
+
+  pub memory_refused : (status : ℕ) (after : Watched Log) → status ≡ 4 → Logs logged log after memory_line → EndsAt ends puts logged path status log after
+  memory_refused status after four line = record {
+    done = λ zero. absurd (let bad : 0 ≡ 4 = sym zero ∙ four in cc);
+    stopped = λ other. inr (inr (inr (inr (four, line))));
+  }
+
+  module _ (number : ℕ) (writer : LateWriter D Made) (before : IsUnwritten (name_beside path number) writer) (written : LateWriter D Made) (status : ℕ) (met : Watched Log) (ended : ends status writer written met) where
+    pub stopped_beside : (status ≡ 0 → ⊥) → EndsAt ends puts logged path status log met
+    stopped_beside other = record {
+      done = λ zero. absurd (other zero);
+      stopped = λ some. inl (record { number = number; writer = writer; unwritten = before; written = written; ended = ended });
+    }
+
+    module _ (zero : status ≡ 0) where
+      ended_done : ends 0 writer written met
+      ended_done = subst (λ s. ends s writer written met) zero ended
+
+      pub put_in_place : IsLastPut puts (name_beside path number) written → EndsAt ends puts logged path 0 log met
+      put_in_place put = record {
+        done = λ none. record { number = number; writer = writer; unwritten = before; written = written; ended = ended_done; put = put };
+        stopped = λ other. absurd (other refl);
+      }
+
+      pub not_put : (out : Option Text) → out ≡ Some path → (last : ℕ) (after : Watched Log) → last ≡ 3 → Logs logged met after (write_line out) → EndsAt ends puts logged path last log after
+      not_put out named last after three line = record {
+        done = λ none. absurd (let bad : 0 ≡ 3 = sym none ∙ three in cc);
+        stopped = λ other. inr (inl (record {
+          met = met;
+          done = record { number = number; writer = writer; unwritten = before; written = written; ended = ended_done };
+          status_is = three;
+          reported = subst (λ o. Logs logged met after (write_line o)) named line;
+        }));
+      }

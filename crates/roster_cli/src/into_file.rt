@@ -1,0 +1,119 @@
+//! An answer that goes to a file: all of it, or what stood there stays.
+
+ghost use Rattle.std.specs.Prelude.{◌≡◌, Some};
+ghost use Rattle.roster_cli.specs.Answer.{out_of};
+ghost use Rattle.roster_cli.specs.Start.{EndsInFile};
+ghost use Rattle.roster_out.specs.Places.{IsBeside};
+
+use crate::faults::{refuse_input, refuse_write};
+use crate::start::{Means, answer_over};
+use roster_answers::refuse;
+use roster_out::{Disk, Place, late_writer, name_beside, put_last, remove_last};
+use roster_request::Request;
+use roster_text::{TextFault, Watch};
+use std::io;
+use std::io::{Read, Write};
+use std::time::Clock;
+
+/// Answers a request, with the answer in the file of this path, which is the one that the request names. What
+/// would refuse the file is looked for before anything is read.
+pub(crate) fn answer_into<
+    K: Clock + Copy,
+    D: Disk + Copy,
+    File: Read + Drop,
+    F: FnMut(&str) -> io::Result<File>,
+    In: Read + Drop,
+    Log: Write,
+>(
+    means: Means<K, D>,
+    request: &Request,
+    path: &str,
+    opener: &mut F,
+    input: In,
+    log: &mut Watch<Log>,
+) -> u8
+    requires callable { F.IsAlwaysCallable opener.old }
+    requires named { out_of request.now ≡ Some path.now }
+    ensures file { EndsInFile F.FnMut opener.old opener.new In.remaining File.remaining D.fresh
+        D.File.contents D.Flushes D.Renames means.disk Log.contents request.now input result log.old
+        log.new }
+{
+    if is_read(&means.disk, &request.files, path) {
+        return refuse_input(path, log);
+    }
+    let Ok(beside) = name_beside(means.alloc, path, number_now(&means.clock)) else {
+        return refuse(TextFault::Memory, log);
+    };
+    let place = Place {
+        disk: means.disk,
+        beside: beside.as_str(),
+        path,
+    };
+    answer_beside(means, request, &place, opener, input, log)
+}
+
+/// The same with the place of the file.
+fn answer_beside<
+    K: Clock + Copy,
+    D: Disk + Copy,
+    File: Read + Drop,
+    F: FnMut(&str) -> io::Result<File>,
+    In: Read + Drop,
+    Log: Write,
+>(
+    means: Means<K, D>,
+    request: &Request,
+    place: &Place<'_, D>,
+    opener: &mut F,
+    input: In,
+    log: &mut Watch<Log>,
+) -> u8
+    requires callable { F.IsAlwaysCallable opener.old }
+    requires named { out_of request.now ≡ Some place.now.path.now }
+    requires beside { IsBeside place.now.path.now place.now.beside.now }
+    ensures file { EndsInFile F.FnMut opener.old opener.new In.remaining File.remaining D.fresh
+        D.File.contents D.Flushes D.Renames place.now.disk Log.contents request.now input result
+        log.old log.new }
+{
+    if !place.is_open() {
+        return refuse_write(&request.out, log);
+    }
+    let Ok(writer) = late_writer(means.alloc, place) else {
+        return refuse(TextFault::Memory, log);
+    };
+    let (status, written) = answer_over(means, request, opener, input, writer, log);
+    if status != 0 {
+        remove_last(place, written);
+        return status;
+    }
+    if put_last(place, written) {
+        return 0;
+    }
+    refuse_write(&request.out, log)
+}
+
+/// Whether the file of this path is one of those that are read, or standard input if none is.
+fn is_read<D: Disk>(disk: &D, files: &[String], path: &str) -> bool {
+    if files.is_empty() {
+        return disk.is_one(STANDARD_INPUT, path);
+    }
+    for file in files {
+        if file.as_str() == path || disk.is_one(file.as_str(), path) {
+            return true;
+        }
+    }
+    false
+}
+
+const STANDARD_INPUT: &str = "/dev/stdin";
+
+/// A number that no run before this one had: the microseconds of the clock, as far as it can be read.
+fn number_now<K: Clock>(clock: &K) -> u64 {
+    match clock.since_1970() {
+        Ok(time) => time
+            .as_secs()
+            .saturating_mul(1_000_000)
+            .saturating_add(time.subsec_micros() as u64),
+        Err(_) => 0,
+    }
+}

@@ -1,0 +1,24 @@
+-- How a file is replaced: the file beside it, and when it has been put in its place.
+use Rattle.std.specs.Prelude.{◌≡◌, ℕ, ◌++◌, List, codes, decimal, Option, None, Some}
+
+-- the name of a file beside another, which only the number tells from other such names
+abbrev pub name_beside : List ℕ → ℕ → List ℕ
+name_beside path number = path ++ codes "." ++ decimal number ++ codes ".part"
+
+-- it is such a name
+abbrev pub IsBeside : List ℕ → List ℕ → Type 0
+IsBeside path name = (number : ℕ) × (name ≡ name_beside path number)
+
+-- the file was flushed to the disk, and after that it had the first name and got the other
+pub record IsPut {D File Flushed : Type 0} (flushes : D → File → Flushed → Type 0)
+    (renames : D → Flushed → List ℕ → List ℕ → Type 0) (disk : D) (file : File)
+    (name path : List ℕ) : Type 0 where
+  pub flushed : Flushed
+  pub is_flushed : flushes disk file flushed
+  pub is_renamed : renames disk flushed name path
+
+-- the bytes of a file that is made at the first write: those of a file that has just been made, until then
+abbrev pub late_contents : {File : Type 0} → Option (List ℕ) → (File → Option (List ℕ)) → Option File
+    → Option (List ℕ)
+late_contents fresh contents None = fresh
+late_contents fresh contents (Some file) = contents file
