@@ -13,6 +13,10 @@ use Rattle.roster_cli.specs.Start.{EndsAt, input_line}
 pub at_path : (P : Text → Type 0) (out : Option Text) (path : Text) → out ≡ Some path → P path → IfSome out P
 at_path P out path named p = subst (λ o. IfSome o P) (sym named) p
 
+-- a file that had the one name had the other, if they are the same
+pub put_under : {D Made : Type 0} (puts : Made → Text → Type 0) (name other : Text) (written : LateWriter D Made) → name ≡ other → IsLastPut puts name written → IsLastPut puts other written
+put_under puts name other written same put = subst (λ n. IsLastPut puts n written) same put
+
 module _ {D Made Log : Type 0} (ends : ℕ → LateWriter D Made → LateWriter D Made → Watched Log → Type 0) (puts : Made → Text → Type 0) (logged : Log → Option Text) (path : Text) (log : Watched Log) where
   pub input_refused : (status : ℕ) (after : Watched Log) → status ≡ 2 → Logs logged log after (input_line path) → EndsAt ends puts logged path status log after
   input_refused status after two line = record {

@@ -1,4 +1,4 @@
-use Rattle.std.proofs.Common.{◌≡◌, ◌∙◌, List, inl, length, map, string_bytes, subst}
+use Rattle.std.proofs.Common.{◌∙◌, inl, string_bytes}
 use Rattle.std.specs.Io.Buffered.{writer_buffer, writer_contents}
 use Rattle.std.proofs.lemmas.List.{length-map}
 use Rattle.roster_cli.specs.Answer.{out_of}
