@@ -98,6 +98,7 @@ fn lines_of(alloc: Global, command: Command) -> Result<Vec<u8>, AllocError> {
     let request = Request {
         command,
         files: Vec::new(alloc),
+        out: None,
     };
     let text = changed(
         alloc,
