@@ -1,6 +1,6 @@
 //! Runs of the program `roster` over bundles in memory.
 
-ghost use Rattle.std.specs.Prelude.{ℕ, ◌≡◌, true};
+ghost use Rattle.std.specs.Prelude.{ℕ, ◌≡◌, false, true};
 ghost use Rattle.roster_request.specs.declared.request.Command.TheVariants as command;
 ghost use Rattle.roster_wards.specs.declared.plan.Work.TheVariants as work;
 
