@@ -2,7 +2,7 @@
 use Rattle.std.proofs.Common.{◌≡◌, ◌∙◌, ℕ, Option, Some, inl, inr, refl, subst, sym}
 use Rattle.std.specs.Prelude.{IfSome}
 use Rattle.roster_text.specs.Io.{Watched}
-use Rattle.roster_out.specs.Places.{name_beside}
+use Rattle.roster_out.specs.Places.{temporary_name}
 use Rattle.roster_out.specs.Writers.{IsLastPut, IsUnwritten, LateWriter}
 use Rattle.roster_answers.specs.Answer.{Logs}
 use Rattle.roster_reports.specs.Lines.{Text, memory_line}
@@ -36,9 +36,9 @@ module _ {D Made Log : Type 0} (ends : ℕ → LateWriter D Made → LateWriter 
     stopped = λ other. inr (inr (inr (inr (four, line))));
   }
 
-  module _ (number : ℕ) (writer : LateWriter D Made) (before : IsUnwritten (name_beside path number) writer) (written : LateWriter D Made) (status : ℕ) (met : Watched Log) (ended : ends status writer written met) where
-    pub stopped_beside : (status ≡ 0 → ⊥) → EndsAt ends puts logged path status log met
-    stopped_beside other = record {
+  module _ (number : ℕ) (writer : LateWriter D Made) (before : IsUnwritten (temporary_name path number) writer) (written : LateWriter D Made) (status : ℕ) (met : Watched Log) (ended : ends status writer written met) where
+    pub stopped_in_temporary : (status ≡ 0 → ⊥) → EndsAt ends puts logged path status log met
+    stopped_in_temporary other = record {
       done = λ zero. absurd (other zero);
       stopped = λ some. inl (record { number = number; writer = writer; unwritten = before; written = written; ended = ended });
     }
@@ -47,7 +47,7 @@ module _ {D Made Log : Type 0} (ends : ℕ → LateWriter D Made → LateWriter 
       ended_done : ends 0 writer written met
       ended_done = subst (λ s. ends s writer written met) zero ended
 
-      pub put_in_place : IsLastPut puts (name_beside path number) written → EndsAt ends puts logged path 0 log met
+      pub put_in_place : IsLastPut puts (temporary_name path number) written → EndsAt ends puts logged path 0 log met
       put_in_place put = record {
         done = λ none. record { number = number; writer = writer; unwritten = before; written = written; ended = ended_done; put = put };
         stopped = λ other. absurd (other refl);

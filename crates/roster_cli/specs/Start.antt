@@ -14,7 +14,7 @@ use Rattle.std.specs.Vec.Iter.{into_iter_items}
 use Rattle.std.specs.Io.KnownBytes.{Appends, Keeps}
 use Rattle.std.specs.Io.Buffered.{writer_buffer, writer_contents}
 use Rattle.std.specs.declared.io.buffered.BufWriter.{BufWriter}
-use Rattle.roster_out.specs.Places.{IsPut, late_contents, name_beside}
+use Rattle.roster_out.specs.Places.{IsPut, late_contents, temporary_name}
 use Rattle.roster_out.specs.Writers.{IsLastPut, IsUnwritten, LateWriter}
 use Rattle.roster_out.specs.declared.late.LateFile.{LateFile}
 use Rattle.roster_bundle.specs.declared.bundle.Bundle.{Bundle}
@@ -218,25 +218,25 @@ OpensAndEnds {F} {In} {File} g opener opener_after remaining file_remaining cont
 
 -- ---- the file to which the roster goes
 
--- A command was answered into the file of this path: a writer to a file beside it took the answer, and after
--- that the file was put in its place.
+-- A command was answered into the file of this path: a writer to a temporary file next to it took the answer,
+-- and after that the file was put in its place.
 pub record IsInFile {D Made Log : Type 0}
     (ends : ℕ → LateWriter D Made → LateWriter D Made → Watched Log → Type 0) (puts : Made → Text → Type 0)
     (path : Text) (log_after : Watched Log) : Type 0 where
   pub number : ℕ
   pub writer : LateWriter D Made
-  pub unwritten : IsUnwritten (name_beside path number) writer
+  pub unwritten : IsUnwritten (temporary_name path number) writer
   pub written : LateWriter D Made
   pub ended : ends 0 writer written log_after
-  pub put : IsLastPut puts (name_beside path number) written
+  pub put : IsLastPut puts (temporary_name path number) written
 
 -- a command stopped with this status over such a writer
-pub record StopsBeside {D Made Log : Type 0}
+pub record StopsInTemporary {D Made Log : Type 0}
     (ends : ℕ → LateWriter D Made → LateWriter D Made → Watched Log → Type 0) (path : Text) (status : ℕ)
     (log_after : Watched Log) : Type 0 where
   pub number : ℕ
   pub writer : LateWriter D Made
-  pub unwritten : IsUnwritten (name_beside path number) writer
+  pub unwritten : IsUnwritten (temporary_name path number) writer
   pub written : LateWriter D Made
   pub ended : ends status writer written log_after
 
@@ -245,7 +245,7 @@ pub record FailsToPut {D Made Log : Type 0}
     (ends : ℕ → LateWriter D Made → LateWriter D Made → Watched Log → Type 0) (logged : Log → Option Text)
     (path : Text) (status : ℕ) (log_after : Watched Log) : Type 0 where
   pub met : Watched Log
-  pub done : StopsBeside ends path 0 met
+  pub done : StopsInTemporary ends path 0 met
   pub status_is : status ≡ 3
   pub reported : Logs logged met log_after (write_line (Some path))
 
@@ -265,7 +265,7 @@ pub record EndsAt {D Made Log : Type 0}
     (ends : ℕ → LateWriter D Made → LateWriter D Made → Watched Log → Type 0) (puts : Made → Text → Type 0)
     (logged : Log → Option Text) (path : Text) (status : ℕ) (log log_after : Watched Log) : Type 0 where
   pub done : status ≡ 0 → IsInFile ends puts path log_after
-  pub stopped : status ≢ 0 → StopsBeside ends path status log_after
+  pub stopped : status ≢ 0 → StopsInTemporary ends path status log_after
       ⊎ FailsToPut ends logged path status log_after ⊎ IsRefusedAt logged path status log log_after
 
 -- a request ended over such a writer, as over any output

@@ -3,12 +3,12 @@
 ghost use Rattle.std.specs.Prelude.{◌≡◌, Some};
 ghost use Rattle.roster_cli.specs.Answer.{out_of};
 ghost use Rattle.roster_cli.specs.Start.{EndsInFile};
-ghost use Rattle.roster_out.specs.Places.{IsBeside};
+ghost use Rattle.roster_out.specs.Places.{IsTemporaryName};
 
 use crate::faults::{refuse_input, refuse_write};
 use crate::start::{Means, answer_over};
 use roster_answers::refuse;
-use roster_out::{Disk, Place, late_writer, name_beside, put_last, remove_last};
+use roster_out::{Disk, Place, late_writer, temporary_name, put_last, remove_last};
 use roster_request::Request;
 use roster_text::{TextFault, Watch};
 use std::io;
@@ -41,19 +41,19 @@ pub(crate) fn answer_into<
     if is_read(&means.disk, &request.files, path) {
         return refuse_input(path, log);
     }
-    let Ok(beside) = name_beside(means.alloc, path, number_now(&means.clock)) else {
+    let Ok(temporary) = temporary_name(means.alloc, path, number_now(&means.clock)) else {
         return refuse(TextFault::Memory, log);
     };
     let place = Place {
         disk: means.disk,
-        beside: beside.as_str(),
+        temporary: temporary.as_str(),
         path,
     };
-    answer_beside(means, request, &place, opener, input, log)
+    answer_at(means, request, &place, opener, input, log)
 }
 
 /// The same with the place of the file.
-fn answer_beside<
+fn answer_at<
     K: Clock + Copy,
     D: Disk + Copy,
     File: Read + Drop,
@@ -70,7 +70,7 @@ fn answer_beside<
 ) -> u8
     requires callable { F.IsAlwaysCallable opener.old }
     requires named { out_of request.now ≡ Some place.now.path.now }
-    requires beside { IsBeside place.now.path.now place.now.beside.now }
+    requires temporary { IsTemporaryName place.now.path.now place.now.temporary.now }
     ensures file { EndsInFile F.FnMut opener.old opener.new In.remaining File.remaining D.fresh
         D.File.contents D.Flushes D.Renames place.now.disk Log.contents request.now input result
         log.old log.new }

@@ -41,7 +41,7 @@ breaches_text c faults = flat_map (breach_line c) faults
 
 -- ---- slots
 
--- the breach if so many nurses are fewer than the minimum
+-- the breach if that many nurses are fewer than the minimum
 abbrev pub slot_fault : Meaning → (day : ℕ) → Shift → Skill → (have : ℕ) → List HardFault
 slot_fault c day shift skill have =
     let least = minimum c day shift.0 skill.0 in

@@ -1,13 +1,13 @@
--- How a file is replaced: the file beside it, and when it has been put in its place.
+-- How a file is replaced: the temporary file next to it, and when it has been put in its place.
 use Rattle.std.specs.Prelude.{◌≡◌, ℕ, ◌++◌, List, codes, decimal, Option, None, Some}
 
--- the name of a file beside another, which only the number tells from other such names
-abbrev pub name_beside : List ℕ → ℕ → List ℕ
-name_beside path number = path ++ codes "." ++ decimal number ++ codes ".part"
+-- the name of a temporary file next to another, which differs from other such names in its number alone
+abbrev pub temporary_name : List ℕ → ℕ → List ℕ
+temporary_name path number = path ++ codes "." ++ decimal number ++ codes ".part"
 
 -- it is such a name
-abbrev pub IsBeside : List ℕ → List ℕ → Type 0
-IsBeside path name = (number : ℕ) × (name ≡ name_beside path number)
+abbrev pub IsTemporaryName : List ℕ → List ℕ → Type 0
+IsTemporaryName path name = (number : ℕ) × (name ≡ temporary_name path number)
 
 -- the file was flushed to the disk, and after that it had the first name and got the other
 pub record IsPut {D File Flushed : Type 0} (flushes : D → File → Flushed → Type 0)

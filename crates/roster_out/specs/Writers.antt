@@ -10,7 +10,7 @@ LateWriter D Made = BufWriter (LateFile D Made) Global
 
 -- its file would have this name, and there is none yet
 pub record IsUnwritten {D Made : Type 0} (name : List ℕ) (writer : LateWriter D Made) : Type 0 where
-  pub name_is : writer.inner.place.beside.now ≡ name
+  pub name_is : writer.inner.place.temporary.now ≡ name
   pub none : writer.inner.file ≡ None
   pub empty : writer_buffer writer ≡ []
 

@@ -10,7 +10,7 @@ use std::alloc::Global;
 use std::io;
 use std::io::{BufWriter, Write};
 
-/// A writer that makes the file beside a path at its first write, so that none is there until then.
+/// A writer that makes the temporary file of a path at its first write, so that none is there until then.
 #[derive(Drop)]
 pub struct LateFile<'a, D, F> {
     pub place: Place<'a, D>,
@@ -23,7 +23,7 @@ impl<'a, D: Disk + Copy> Write for LateFile<'a, D, D::File> {
     fn write(&mut self, buf: &[u8]) -> io::Result<usize> {
         let mut file = match self.file.take() {
             Some(file) => file,
-            None => self.place.make_beside()?,
+            None => self.place.make_temporary()?,
         };
         let taken = file.write(buf);
         self.file = Some(file);
@@ -41,29 +41,29 @@ impl<'a, D: Disk + Copy> Write for LateFile<'a, D, D::File> {
 /// The size of the buffer of a writer, in bytes.
 const BUFFER: usize = 65_536;
 
-/// A writer to the file beside a path, before the first write.
+/// A writer to the temporary file of a path, before the first write.
 pub fn late_writer<'a, D: Disk + Copy>(
     alloc: Global,
     place: &Place<'a, D>,
 ) -> io::Result<BufWriter<LateFile<'a, D, D::File>>>
-    ensures { IfOk result (IsUnwritten place.now.beside.now) }
+    ensures { IfOk result (IsUnwritten place.now.temporary.now) }
 {
     let place = Place {
         disk: place.disk,
-        beside: place.beside,
+        temporary: place.temporary,
         path: place.path,
     };
     BufWriter::with_capacity(alloc, BUFFER, LateFile { place, file: None })
 }
 
-/// Puts the file of a writer that holds nothing back in its place. If that fails, no file is left beside it.
+/// Puts the file of a writer that holds nothing back in its place. If that fails, no temporary file is left.
 pub fn put_last<D: Disk + Copy>(
     place: &Place<'_, D>,
     writer: BufWriter<LateFile<'_, D, D::File>>,
 ) -> bool
     ensures { result ≡ true → IsLastPut
         (λ file name. IsPut D.Flushes D.Renames place.now.disk file name place.now.path.now)
-        place.now.beside.now writer.entry }
+        place.now.temporary.now writer.entry }
 {
     let (late, _held) = writer.into_parts();
     let LateFile { file, .. } = late;

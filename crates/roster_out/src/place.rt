@@ -1,16 +1,16 @@
 //! The place of a file that is to be replaced.
 
 ghost use Rattle.std.specs.Prelude.{◌≡◌, IfOk, OnOk, string_bytes};
-ghost use Rattle.roster_out.specs.Places.{IsPut, name_beside};
+ghost use Rattle.roster_out.specs.Places.{IsPut, temporary_name};
 
 use crate::disk::Disk;
 use itoa::Buffer;
 use std::alloc::{AllocError, Global};
 use std::io;
 
-/// The name of a file beside the one of this path, with this number in it.
-pub fn name_beside(alloc: Global, path: &str, number: u64) -> Result<String, AllocError>
-    ensures { IfOk result (λ name. string_bytes name ≡ name_beside path.now number) }
+/// The name of a temporary file next to the one of this path, with this number in it.
+pub fn temporary_name(alloc: Global, path: &str, number: u64) -> Result<String, AllocError>
+    ensures { IfOk result (λ name. string_bytes name ≡ temporary_name path.now number) }
 {
     let mut digits = Buffer::new();
     let mut name = String::from_str(alloc, path)?;
@@ -20,22 +20,22 @@ pub fn name_beside(alloc: Global, path: &str, number: u64) -> Result<String, All
     Ok(name)
 }
 
-/// A path, and the name beside it under which the file is made that is to get this path.
+/// A path, and the name of the temporary file next to it, which is to get this path.
 #[derive(Clone, Copy)]
 pub struct Place<'a, D> {
     pub disk: D,
-    pub beside: &'a str,
+    pub temporary: &'a str,
     pub path: &'a str,
 }
 
 impl<'a, D: Disk> Place<'a, D> {
-    /// Makes the file beside the path, with the rights of what has the path.
-    pub fn make_beside(&self) -> io::Result<D::File>
-        ensures made { IfOk result (λ file. D.Makes self.now.disk self.now.beside.now
+    /// Makes the temporary file, with the rights of what has the path.
+    pub fn make_temporary(&self) -> io::Result<D::File>
+        ensures made { IfOk result (λ file. D.Makes self.now.disk self.now.temporary.now
             self.now.path.now file) }
         ensures fresh { IfOk result (λ file. D.File.contents file ≡ D.fresh) }
     {
-        self.disk.make(self.beside, self.path)
+        self.disk.make(self.temporary, self.path)
     }
 
     /// Whether the file can be made, and the path can be its own. No file is left.
@@ -43,7 +43,7 @@ impl<'a, D: Disk> Place<'a, D> {
         if self.path.is_empty() || !self.disk.is_file_or_free(self.path) {
             return false;
         }
-        match self.make_beside() {
+        match self.make_temporary() {
             Ok(file) => {
                 drop(file);
                 self.clear();
@@ -56,14 +56,14 @@ impl<'a, D: Disk> Place<'a, D> {
     /// Puts the file, once it is flushed to the disk, in its place.
     pub fn put(&self, file: D::File) -> io::Result<()>
         ensures { OnOk result (IsPut D.Flushes D.Renames self.now.disk file
-            self.now.beside.now self.now.path.now) }
+            self.now.temporary.now self.now.path.now) }
     {
         let flushed = self.disk.flush(file)?;
-        self.disk.rename(flushed, self.beside, self.path)
+        self.disk.rename(flushed, self.temporary, self.path)
     }
 
-    /// Removes the file beside the path, if there is one.
+    /// Removes the temporary file, if there is one.
     pub fn clear(&self) {
-        self.disk.remove(self.beside);
+        self.disk.remove(self.temporary);
     }
 }

@@ -114,10 +114,10 @@ so that the roster stays much as it is. Then the log begins with a line
 'keep N', and its numbers include these points.
 
 With --out FILE, the rosters go to FILE, and standard output stays empty. They
-are written to a file beside it, which is flushed to the disk and renamed onto
-FILE once it is whole, so that FILE has all of them, or what it had before. A
-FILE that is one of the inputs is refused, and so is one in a folder that can't
-be written.
+are written to a temporary file next to it, which is flushed to the disk and
+renamed onto FILE once it is whole, so that FILE has all of them, or what it had
+before. A FILE that is one of the inputs is refused, and so is one in a folder
+that can't be written.
 
 What isn't promised: that this is the best roster, since the others' rows stay;
 that it is best for two nurses at once; how long the search takes. For its
@@ -168,10 +168,10 @@ so that the roster stays much as it is. Then the log begins with a line
 'keep N', and its numbers include these points.
 
 With --out FILE, the rosters go to FILE, and standard output stays empty. They
-are written to a file beside it, which is flushed to the disk and renamed onto
-FILE once it is whole, so that FILE has all of them, or what it had before. A
-FILE that is one of the inputs is refused, and so is one in a folder that can't
-be written.
+are written to a temporary file next to it, which is flushed to the disk and
+renamed onto FILE once it is whole, so that FILE has all of them, or what it had
+before. A FILE that is one of the inputs is refused, and so is one in a folder
+that can't be written.
 
 What isn't promised: that these are the best rosters of all, settled or not,
 since changing two rows at once may still save something; how long the run
@@ -321,10 +321,10 @@ so that the roster stays much as it is. Then the log begins with a line
 'keep N', and its numbers include these points.
 
 With --out FILE, the rosters go to FILE, and standard output stays empty. They
-are written to a file beside it, which is flushed to the disk and renamed onto
-FILE once it is whole, so that FILE has all of them, or what it had before. A
-FILE that is one of the inputs is refused, and so is one in a folder that can't
-be written.
+are written to a temporary file next to it, which is flushed to the disk and
+renamed onto FILE once it is whole, so that FILE has all of them, or what it had
+before. A FILE that is one of the inputs is refused, and so is one in a folder
+that can't be written.
 
 What isn't promised: how cheap the rosters get, for which see 'roster bound';
 how long the run takes. For its memory and the greatest number of extensions for
@@ -401,10 +401,10 @@ so that the roster stays much as it is. Then the log begins with a line
 'keep N', and its numbers include these points.
 
 With --out FILE, the rosters go to FILE, and standard output stays empty. They
-are written to a file beside it, which is flushed to the disk and renamed onto
-FILE once it is whole, so that FILE has all of them, or what it had before. A
-FILE that is one of the inputs is refused, and so is one in a folder that can't
-be written.
+are written to a temporary file next to it, which is flushed to the disk and
+renamed onto FILE once it is whole, so that FILE has all of them, or what it had
+before. A FILE that is one of the inputs is refused, and so is one in a folder
+that can't be written.
 
 What isn't promised: that a roster is found if there is one; how cheap the
 rosters get, for which see 'roster bound'; how long the run takes. For its

@@ -11,7 +11,7 @@ pub record Time : Type 0 where
 abbrev pub time_of : {K : Type 0} → Deadline K → Time
 time_of d = record { ends = d.ends; last = d.last; step = d.step }
 
--- the end of a time that begins at a reading and lasts so many seconds, if they are given
+-- the end of a time that begins at a reading and lasts that many seconds, if a number is given
 abbrev pub ends_after : (reading : ℕ) → (seconds : Option ℕ) → Option ℕ
 ends_after reading = option_map (λ s. min (reading + s * 1000000) (2 ^ 64 - 1))
 
