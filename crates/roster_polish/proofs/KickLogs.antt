@@ -1,7 +1,7 @@
 -- A run of kicks: the lines so far are sent.
-use Rattle.std.proofs.Common.{◌≡◌, ◌∙◌, ◌+◌, ◌-◌, ◌<◌, ◌≤◌, ℕ, Bool, true, List, [], ◌∷◌, ◌++◌, None, Option, Some, ap, append_assoc, append-nil, arith, flat_map, length, length-append, map, refl, subst, sym, zero-add}
+use Rattle.std.proofs.Common.{◌≡◌, ◌∙◌, ◌+◌, ◌-◌, ◌<◌, ◌≤◌, ℕ, Bool, false, true, List, [], ◌∷◌, ◌++◌, None, Option, Some, ap, append_assoc, append-nil, arith, flat_map, length, length-append, map, refl, subst, sym, zero-add}
 use Rattle.std.specs.Prelude.{IfSome, if◌then◌else◌}
-use Rattle.std.proofs.lemmas.Bool.{le-ltb, lt-ltb}
+use Rattle.std.proofs.lemmas.Bool.{false≢true, le-ltb, lt-ltb}
 use Rattle.std.proofs.lemmas.List.{map-append}
 use Rattle.std.proofs.lemmas.List.Concat.{flat_map-append}
 use Rattle.std.proofs.lemmas.List.Elements.{All-append, All-cons, All-nil}
@@ -22,6 +22,7 @@ use Rattle.roster_reports.specs.declared.log_fault.LogFault.TheVariants.{LogFail
 use Rattle.roster_polish.specs.declared.run.Polished.{Polished}
 use Rattle.roster_polish.specs.Polished.{Falls, IsFaded, IsKickLog, IsPolishing, IsReached, KickLine, PolishLogStops, Polishes, LogEntry, begun, fade_line, fade_text, first_run, held_at, kick_line, kicks_text, last_kick, last_line, descent_rounds, no_kick, fade_entry, kick_entry, last_entry, log_entries, start_entry}
 use Rattle.roster_polish.specs.Settled.{IsSettled}
+use Rattle.roster_polish.specs.Shown.{IsAsDear, IsReported}
 
 -- ---- one more line
 
@@ -90,13 +91,14 @@ unkicked_text c from start given = kicks_text c start None [] ++ last_line c (fi
 
 -- ---- the kicks made so far
 
-pub record Underway {W : Type 0} (contents : W → Option (List ℕ)) (c : Meaning) (from : ℕ) (given : Rows) (start : ℕ) (alone : Bool) (old mid : Watched W) (made sent : ℕ) (settled : Bool) (kept : Rows) : Type 0 where
+pub record Underway {W : Type 0} (contents : W → Option (List ℕ)) (c : Meaning) (from : ℕ) (given : Rows) (start : ℕ) (alone : Bool) (old mid : Watched W) (made sent : ℕ) (settled reported : Bool) (kept : Rows) : Type 0 where
   pub fade : Option Rows
   pub fadeless : alone ≡ true → fade ≡ None
   pub faded : IfSome fade (IsFaded c from given (first_run c from given).roster)
   pub lines : List KickLine
   pub is_log : IsKickLog c from given (begun fade (first_run c from given).roster) made lines
   pub as_logged : penalty c kept ≡ penalty c (last_kick (no_kick (begun fade (first_run c from given).roster)) lines).roster
+  pub as_reported : reported ≡ true → IsAsDear c given fade lines kept
   pub is_settled : settled ≡ true → IsSettled c from kept
   pub surely : (first_run c from given).is_settled ≡ true → settled ≡ true
   pub sends : Sends contents old mid 0 sent (kicks_text c start fade lines)
@@ -157,7 +159,7 @@ module _ (c : Meaning) (from : ℕ) (given : Rows) (start : ℕ) (alone : Bool) 
         ∙ ap (λ text. first_line ++ text) (append_assoc (fade_text c fade) (flat_map (kick_line c) xs) (kick_line c x))
         ∙ ap (λ text. first_line ++ (fade_text c fade ++ text)) (ap (λ text. flat_map (kick_line c) xs ++ text) (sym (append-nil (kick_line c x))) ∙ sym (flat_map-append (kick_line c) xs (x ∷ [])))
 
-    pub underway_first : (new : Watched W) (sent : ℕ) → Sends contents old new 0 sent (kicks_text c start None []) → Underway contents c from given start alone old new 0 sent (first_run c from given).is_settled first
+    pub underway_first : (new : Watched W) (sent : ℕ) → Sends contents old new 0 sent (kicks_text c start None []) → Underway contents c from given start alone old new 0 sent (first_run c from given).is_settled false first
     underway_first new sent sends = record {
       fade = None;
       fadeless = λ e. refl;
@@ -165,10 +167,15 @@ module _ (c : Meaning) (from : ℕ) (given : Rows) (start : ℕ) (alone : Bool) 
       lines = [];
       is_log = no_log first 0;
       as_logged = refl;
+      as_reported = λ e. absurd (false≢true e);
       is_settled = first_settled;
       surely = λ end. end;
       sends = sends;
     }
+
+    -- the given roster is one that the log has reported
+    pub reported_first : (new : Watched W) (sent : ℕ) → IsAccepted c given → Sends contents old new 0 sent (kicks_text c start None []) → IsReported contents c from given start old given
+    reported_first new sent accepted sends = record { fade = None; lines = []; met = new; sent = sent; sends = sends; reached = record { accepted = accepted; stays = stays_self c from given }; as_dear = refl }
 
     -- the start's line broke off
     pub start_breaks : (kicks : ℕ) (new : Watched W) (fault : WriteFault) → IsAccepted c given → BreaksIn contents old new 0 (kicks_text c start None []) fault → PolishLogStops contents c from given start kicks alone given old new (LogFailed (sent_of fault))
@@ -192,7 +199,7 @@ module _ (c : Meaning) (from : ℕ) (given : Rows) (start : ℕ) (alone : Bool) 
       unfolding first_line
       fade_more = append_assoc first_line [] (fade_line c next) ∙ ap (λ text. first_line ++ text) (sym (append-nil (fade_line c next)))
 
-      pub underway_faded : (new : Watched W) (after : ℕ) → Sends contents mid new sent after (fade_line c next) → Underway contents c from given start alone old new 0 after true next
+      pub underway_faded : (new : Watched W) (after : ℕ) → Sends contents mid new sent after (fade_line c next) → Underway contents c from given start alone old new 0 after true true next
       underway_faded new after q = record {
         fade = Some next;
         fadeless = λ e. absurd (fades e);
@@ -200,6 +207,7 @@ module _ (c : Meaning) (from : ℕ) (given : Rows) (start : ℕ) (alone : Bool) 
         lines = [];
         is_log = no_log next 0;
         as_logged = refl;
+        as_reported = λ e. refl;
         is_settled = λ e. faded.is_settled;
         surely = λ end. refl;
         sends = subst (Sends contents old new 0 after) fade_more (Sends-append contents old mid new 0 sent after (kicks_text c start None []) (fade_line c next) sends q);
@@ -239,15 +247,19 @@ module _ (c : Meaning) (from : ℕ) (given : Rows) (start : ℕ) (alone : Bool) 
             reached = faded.reached;
           }
 
-    module _ (mid : Watched W) (made sent : ℕ) (settled : Bool) (kept : Rows) (p : Underway contents c from given start alone old mid made sent settled kept) where
+    module _ (mid : Watched W) (made sent : ℕ) (settled reported : Bool) (kept : Rows) (p : Underway contents c from given start alone old mid made sent settled reported kept) where
       abbrev begin : Rows
       begin = begun p.fade first
 
       pub underway_no_dearer : penalty c kept ≤ penalty c given
       underway_no_dearer = no_dearer_than p.fade p.faded p.lines kept p.is_log.falls p.as_logged
 
+      -- the kept roster is one that the log has reported
+      pub reported_now : reported ≡ true → IsReached c from given kept → IsReported contents c from given start old kept
+      reported_now is reached = record { fade = p.fade; lines = p.lines; met = mid; sent = sent; sends = p.sends; reached = reached; as_dear = p.as_reported is }
+
       -- a kick that left the roster as dear
-      pub underway_same : (now : Bool) (next : Rows) → penalty c next ≡ penalty c kept → (now ≡ true → IsSettled c from next) → (settled ≡ true → now ≡ true) → Underway contents c from given start alone old mid (made + 1) sent now next
+      pub underway_same : (now : Bool) (next : Rows) → penalty c next ≡ penalty c kept → (now ≡ true → IsSettled c from next) → (settled ≡ true → now ≡ true) → Underway contents c from given start alone old mid (made + 1) sent now reported next
       underway_same now next same is_settled still = record {
         fade = p.fade;
         fadeless = p.fadeless;
@@ -255,6 +267,7 @@ module _ (c : Meaning) (from : ℕ) (given : Rows) (start : ℕ) (alone : Bool) 
         lines = p.lines;
         is_log = later_log begin made (made + 1) p.lines (omega arith) p.is_log;
         as_logged = same ∙ p.as_logged;
+        as_reported = λ e. same ∙ p.as_reported e;
         is_settled = is_settled;
         surely = λ end. still (p.surely end);
         sends = p.sends;
@@ -280,7 +293,7 @@ module _ (c : Meaning) (from : ℕ) (given : Rows) (start : ℕ) (alone : Bool) 
         logged_then = sym (ap (λ (y : KickLine). penalty c y.roster) (last_is (no_kick begin) p.lines one))
 
         -- a kick that left it cheaper
-        pub underway_cheaper : (new : Watched W) (after : ℕ) → Sends contents mid new sent after (kick_line c one) → Underway contents c from given start alone old new (made + 1) after true next
+        pub underway_cheaper : (new : Watched W) (after : ℕ) → Sends contents mid new sent after (kick_line c one) → Underway contents c from given start alone old new (made + 1) after true true next
         underway_cheaper new after q = record {
           fade = p.fade;
           fadeless = p.fadeless;
@@ -288,6 +301,7 @@ module _ (c : Meaning) (from : ℕ) (given : Rows) (start : ℕ) (alone : Bool) 
           lines = lines_then;
           is_log = more_log;
           as_logged = logged_then;
+          as_reported = λ e. sym (ap (λ (y : KickLine). penalty c y.roster) (last_is (no_kick (begun p.fade given)) p.lines one));
           is_settled = λ e. is_settled;
           surely = λ end. refl;
           sends = subst (Sends contents old new 0 after) (text_more p.fade p.lines one) (Sends-append contents old mid new 0 sent after (kicks_text c start p.fade p.lines) (kick_line c one) p.sends q);

@@ -4,6 +4,7 @@ pub mod Keeping
 pub mod Memory
 pub mod FadeRows
 pub mod KickLogs
+pub mod Showing
 pub mod Passes
 pub mod PlanRows
 mod Fading

@@ -7,3 +7,4 @@ pub mod Fades
 pub mod Tries
 pub mod Near
 pub mod Descents
+pub mod Shown

@@ -9,6 +9,7 @@ ghost use Rattle.roster_rules.specs.Penalties.{penalty};
 ghost use Rattle.roster_polish.specs.Descents.{KickStays};
 ghost use Rattle.roster_polish.specs.Polished.{FitsPolish, GivenLogStops, PolishLogStops, Polishes, PolishesGiven, first_searches, descent_searches};
 ghost use Rattle.roster_polish.specs.Settled.{Spends, extensions_of};
+ghost use Rattle.roster_polish.specs.Shown.{SawOnlyReported};
 ghost use Rattle.roster_polish.specs.Tries.{CanSearch, StaysNoDearer};
 
 use crate::again::try_again;
@@ -18,6 +19,7 @@ use crate::kick::{Kicking, try_kick};
 use crate::log::log_kick;
 use crate::near::try_near;
 use crate::random::Random;
+use crate::saves::{NoSaves, Reporting, Saves, show_if};
 use crate::searches::{MOST_MICROS, Searches};
 use crate::space::PolishSpace;
 use crate::turns::Turns;
@@ -84,20 +86,23 @@ pub fn polish<W: Write, T: SearchesRows, K: Clock + Copy>(
         (course.now.searches + descent_searches held.old.case course.now.from held.old.roster) }
     ensures fits { FitsPolish held.old.case space.new }
 {
-    let start = held.total();
-    polish_found(held, course, start, space, meter, log)
+    let mut reporting = Reporting {
+        start: held.total(),
+        saver: NoSaves,
+    };
+    polish_found(held, course, &mut reporting, space, meter, log)
 }
 
 /// The same with another number in the first line of the log: that of the roster from which the given one was
-/// found.
+/// found. The rosters that the log has reported are shown to a saver.
 ///
 /// # Errors
 ///
 /// As those of `polish`.
-pub fn polish_found<W: Write, T: SearchesRows, K: Clock + Copy>(
+pub fn polish_found<W: Write, T: SearchesRows, K: Clock + Copy, S: Saves>(
     held: &mut Held,
     course: &Course<K>,
-    start: u64,
+    reporting: &mut Reporting<S>,
     space: &mut PolishSpace<T>,
     meter: &mut Meter,
     log: &mut Watch<W>,
@@ -107,10 +112,13 @@ pub fn polish_found<W: Write, T: SearchesRows, K: Clock + Copy>(
         (course.now.searches + first_searches held.old.case) ≤ greatest_u64 }
     ensures case { held.new.case ≡ held.old.case }
     ensures ok { IfOk result (Polishes W.contents held.old.case course.now.from held.old.roster
-        start course.now.searches course.now.kicks_alone held.new.roster log.old log.new) }
-    ensures err { IfErr result (PolishLogStops W.contents held.old.case course.now.from
-        held.old.roster start course.now.searches course.now.kicks_alone held.new.roster log.old
+        reporting.old.start course.now.searches course.now.kicks_alone held.new.roster log.old
         log.new) }
+    ensures err { IfErr result (PolishLogStops W.contents held.old.case course.now.from
+        held.old.roster reporting.old.start course.now.searches course.now.kicks_alone
+        held.new.roster log.old log.new) }
+    ensures saved { SawOnlyReported W.contents S.Saw held.old.case course.now.from held.old.roster
+        reporting.old.start log.old reporting.old.saver reporting.new.saver }
     ensures no_dearer { penalty held.old.case held.new.roster ≤ penalty held.old.case
         held.old.roster }
     ensures frozen { FrozenDaysStay held.old.case course.now.from held.old.roster held.new.roster }
@@ -119,12 +127,15 @@ pub fn polish_found<W: Write, T: SearchesRows, K: Clock + Copy>(
     ensures fits { FitsPolish held.old.case space.new }
 {
     held.keeps_rules();
-    let mut sent = log_start(log, 0, held.case(), start)?;
+    let mut sent = log_start(log, 0, held.case(), reporting.start)?;
+    reporting.saver.show(held);
     let mut settled = descend_first(held, course.from, space, meter);
     let mut kicking = begin(held, course, space, meter);
     let all = kicking.searches.remaining();
+    let mut is_reported = false;
     if try_fade(held, course.from, &mut kicking, space, meter) {
         settled = true;
+        is_reported = true;
         held.keeps_rules();
         sent = log_word(log, sent, b"fade", held.total())?;
     }
@@ -134,6 +145,7 @@ pub fn polish_found<W: Write, T: SearchesRows, K: Clock + Copy>(
         if !kicking.turns.go_on(left) {
             break;
         }
+        show_if(is_reported, held, &mut reporting.saver);
         let before = held.total();
         if !try_change(held, course, &mut kicking, space, meter) {
             continue;
@@ -142,6 +154,7 @@ pub fn polish_found<W: Write, T: SearchesRows, K: Clock + Copy>(
         held.keeps_rules();
         let total = held.total();
         if total < before {
+            is_reported = true;
             sent = log_kick(log, sent, kicks_before + 1, total)?;
         }
     }
