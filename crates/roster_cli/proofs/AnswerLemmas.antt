@@ -1,5 +1,5 @@
 -- Which fault a failing reader or writer causes, and that each command has a report.
-use Rattle.std.proofs.Common.{◌≡◌, ◌∙◌, ◌∷◌, [], ◌<◌, ℕ, arith, Err, None, Option, Some, ap, length, lit<, refl, subst, false, true, Bool}
+use Rattle.std.proofs.Common.{◌≡◌, ◌∙◌, ◌∷◌, [], ◌<◌, ℕ, arith, Err, None, Option, Some, ap, inr, length, lit<, refl, subst, false, true, Bool}
 use Rattle.std.specs.Borrow.{Bor}
 use Rattle.std.specs.Prelude.{Contains, IfSome, IsErrOf, option_map, string_bytes}
 use Rattle.roster_text.specs.Io.{IsReadFault, counted, is_read_failure}
@@ -11,6 +11,7 @@ use Rattle.roster_instance.specs.Meaning.{Meaning, keeping}
 use Rattle.roster_instance.specs.declared.fault.CaseFault.TheVariants as case
 use Rattle.roster_answers.specs.Answer.{Input, IsKeptAt, IsOutcomeOf, Leaves, LeavesLog, CommandEnd, Output, Report, Reports, SpellsInstance, StopsReading, Untouched, best_report, cost_report, improve_report, plain, roster_of}
 use Rattle.roster_cli.specs.Answer.{Answers, IsAnswer, IsPlanReport, IsPolishReport, IsReportIn, IsUnread, case_for, keep_of, plan_report, polish_report, searches_for}
+use Rattle.roster_cli.specs.Saving.{Shows, ShowsSpelled}
 use Rattle.roster_reports.specs.Lines.{Text, sizes_text}
 use Rattle.roster_json.specs.Reports.{json_cost, json_sizes}
 use Rattle.roster_answers.specs.Lines.{status_of}
@@ -186,3 +187,11 @@ module _ {W L : Type 0} (output : Output W) (log : Output L) (command : Command)
         let is = subst (λ m. IsReportIn command m rows h.report) case_meant (subst (λ r. IsReportIn command kept.case r h.report) rows_meant h.is) in
         let ends = subst (λ m. IsOutcomeOf h.report m outcome) case_meant h.ends.ends in
         as_taken h.report is outcome ends h.ends.left h.logged
+
+    -- a command that shows rosters for the instance that is kept shows them for the bundle
+    pub shows : {S : Type 0} (saw : S → Meaning → Rows → S → Type 0) (saver after : S) → Shows saw log.contents log.before kept.case kept.roster saver after → ShowsSpelled saw log.contents log.before command source saver after
+    shows saw saver after h = inr (record {
+      bundle = says.bundle;
+      spelled = says.spelled;
+      shows = subst (λ m. Shows saw log.contents log.before m rows saver after) case_meant (subst (λ r. Shows saw log.contents log.before kept.case r saver after) rows_meant h);
+    })

@@ -1,5 +1,6 @@
 -- How a command ends whose answer goes to a file.
-use Rattle.std.proofs.Common.{◌≡◌, ◌∙◌, ℕ, Option, Some, inl, inr, refl, subst, sym}
+use Rattle.std.proofs.Common.{◌≡◌, ◌∙◌, ◌++◌, ℕ, None, Option, Some, [], ap, append-nil, inl, inr, refl, subst, sym}
+use Rattle.std.specs.Io.KnownBytes.{Appends, Keeps, append_known}
 use Rattle.std.specs.Prelude.{IfSome}
 use Rattle.roster_text.specs.Io.{Watched}
 use Rattle.roster_out.specs.Places.{temporary_name}
@@ -63,3 +64,14 @@ module _ {D Made Log : Type 0} (ends : ℕ → LateWriter D Made → LateWriter 
           reported = subst (λ o. Logs logged met after (write_line o)) named line;
         }));
       }
+
+-- what a writer took that had nothing before is in its file, once nothing of it is held back
+pub in_file : (fresh had mid last : Option Text) (before after text : Text) → had ≡ fresh → before ≡ [] → Appends (append_known had before) mid text → Keeps mid (append_known last after) → after ≡ [] → Appends fresh last text
+in_file fresh had mid last before after text none empty grown kept sent =
+    go fresh mid last (subst (λ o. Appends (append_known o []) mid text) none (subst (λ bs. Appends (append_known had bs) mid text) empty grown)) (subst (λ bs. Keeps mid (append_known last bs)) sent kept)
+  where
+    go : (fresh mid last : Option Text) → Appends (append_known fresh []) mid text → Keeps mid (append_known last []) → Appends fresh last text
+    go None mid last a k = tt
+    go (Some xs) None last a k = absurd a
+    go (Some xs) (Some ys) None a k = absurd k
+    go (Some xs) (Some ys) (Some zs) a k = sym (append-nil zs) ∙ k ∙ a ∙ ap (λ those. those ++ text) (append-nil xs)

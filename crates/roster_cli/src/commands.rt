@@ -4,7 +4,9 @@ ghost use Rattle.std.specs.Prelude.{◌≡◌, ◌≤◌, option_map, string_byt
 ghost use Rattle.roster_instance.specs.Limits.{most_keep};
 ghost use Rattle.roster_answers.specs.Answer.{Reports, names_in, outcome_of, output_of};
 ghost use Rattle.roster_cli.specs.Answer.{IsReportFor, keep_of, searches_for};
+ghost use Rattle.roster_cli.specs.Saving.{Shows};
 
+use crate::aids::Aids;
 use crate::plan::report_plan;
 use crate::polish::report_polish;
 use roster_answers::{
@@ -14,29 +16,31 @@ use roster_answers::{
 use roster_bound::{Effort, Task};
 use roster_instance::Case;
 use roster_partial::RowSearcher;
-use roster_polish::{Course, MOST_SEARCHES};
+use roster_polish::{Course, MOST_SEARCHES, Saves};
 use roster_request::Command;
 use roster_state::Meter;
 use roster_text::Watch;
 use roster_timer::Deadline;
-use std::alloc::Global;
 use std::io::Write;
 use std::time::Clock;
 
 /// Writes what a command reports of an instance, or answers why it is refused. The command's log goes to
 /// `log`.
-pub(crate) fn report<'a, K: Clock + Copy, Out: Write, Log: Write>(
-    alloc: Global,
+pub(crate) fn report<'a, K: Clock + Copy, S: Saves, Out: Write, Log: Write>(
+    aids: &mut Aids<K, S>,
     command: &'a Command,
-    clock: K,
     mut instance: Instance,
     output: &mut Watch<Out>,
     log: &mut Watch<Log>,
 ) -> Result<(), Fault<'a>>
-    ensures { Reports (output_of Out.contents output.old output.new)
+    ensures reports { Reports (output_of Out.contents output.old output.new)
         (output_of Log.contents log.old log.new)
         (IsReportFor command.now instance) instance.case (outcome_of result) }
+    ensures saved { Shows S.Saw Log.contents log.old instance.case instance.roster
+        aids.old.reporting.saver aids.new.reporting.saver }
 {
+    let alloc = aids.alloc;
+    let clock = aids.clock;
     match command {
         Command::Show => show_weeks(&instance.case, &instance.roster, output),
         Command::Cost { json: false } => report_cost(alloc, instance, output),
@@ -88,7 +92,7 @@ pub(crate) fn report<'a, K: Clock + Copy, Out: Write, Log: Write>(
                 kicks_alone: *kicks_alone,
                 deadline: Deadline::start(clock, *seconds),
             };
-            report_polish(alloc, &course, instance, output, log)
+            report_polish(aids, &course, instance, output, log)
         }
         Command::Plan {
             searches,
@@ -105,7 +109,7 @@ pub(crate) fn report<'a, K: Clock + Copy, Out: Write, Log: Write>(
                 deadline: Deadline::start(clock, *seconds),
             };
             let mut meter = Meter::new(&mut instance.case);
-            report_plan(alloc, &mut course, instance, &mut meter, output, log)
+            report_plan(aids, &mut course, instance, &mut meter, output, log)
         }
         Command::Who {
             day,

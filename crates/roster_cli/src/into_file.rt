@@ -5,10 +5,12 @@ ghost use Rattle.roster_cli.specs.Answer.{out_of};
 ghost use Rattle.roster_cli.specs.Start.{EndsInFile};
 ghost use Rattle.roster_out.specs.Places.{IsTemporaryName};
 
+use crate::aids::Aids;
 use crate::faults::{refuse_input, refuse_write};
+use crate::saver::{FileSaver, micros_of};
 use crate::start::{Means, answer_over};
 use roster_answers::refuse;
-use roster_out::{Disk, Place, late_writer, temporary_name, put_last, remove_last};
+use roster_out::{Disk, Place, late_writer, put_last, remove_last, temporary_name};
 use roster_request::Request;
 use roster_text::{TextFault, Watch};
 use std::io;
@@ -41,7 +43,9 @@ pub(crate) fn answer_into<
     if is_read(&means.disk, &request.files, path) {
         return refuse_input(path, log);
     }
-    let Ok(temporary) = temporary_name(means.alloc, path, number_now(&means.clock)) else {
+    // No run before this one had this number.
+    let number = micros_of(means.clock.since_1970());
+    let Ok(temporary) = temporary_name(means.alloc, path, number) else {
         return refuse(TextFault::Memory, log);
     };
     let place = Place {
@@ -52,7 +56,8 @@ pub(crate) fn answer_into<
     answer_at(means, request, &place, opener, input, log)
 }
 
-/// The same with the place of the file.
+/// The same with the place of the file. While a run goes on, a saver puts rosters there that the log has
+/// reported, and all memory that it needs is asked for before the run.
 fn answer_at<
     K: Clock + Copy,
     D: Disk + Copy,
@@ -81,7 +86,12 @@ fn answer_at<
     let Ok(writer) = late_writer(means.alloc, place) else {
         return refuse(TextFault::Memory, log);
     };
-    let (status, written) = answer_over(means, request, opener, input, writer, log);
+    let Ok(early) = late_writer(means.alloc, place) else {
+        return refuse(TextFault::Memory, log);
+    };
+    let saver = FileSaver::new(means.clock, place, early);
+    let mut aids = Aids::new(means.alloc, means.clock, saver);
+    let (status, written) = answer_over(&mut aids, request, opener, input, writer, log);
     if status != 0 {
         remove_last(place, written);
         return status;
@@ -106,14 +116,3 @@ fn is_read<D: Disk>(disk: &D, files: &[String], path: &str) -> bool {
 }
 
 const STANDARD_INPUT: &str = "/dev/stdin";
-
-/// A number that no run before this one had: the microseconds of the clock, as far as it can be read.
-fn number_now<K: Clock>(clock: &K) -> u64 {
-    match clock.since_1970() {
-        Ok(time) => time
-            .as_secs()
-            .saturating_mul(1_000_000)
-            .saturating_add(time.subsec_micros() as u64),
-        Err(_) => 0,
-    }
-}

@@ -10,16 +10,20 @@
 //! gives. `refuse` promises the line and the status of a fault outside of `run`.
 #![tactic(auto)]
 
+mod aids;
 mod answer;
 mod commands;
 mod faults;
 mod into_file;
 mod plan;
 mod polish;
+mod saver;
 mod start;
 
-pub use answer::{run, run_timed};
+pub use aids::Aids;
+pub use answer::{run, run_saving, run_timed};
 pub use roster_answers::refuse;
 pub use roster_input::Joined;
+pub use roster_polish::{NoSaves, Saves};
 pub use roster_request::{CliFault, Command, Request, request_of};
 pub use start::{answer_command_line, answer_words};

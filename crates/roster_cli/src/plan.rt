@@ -5,13 +5,15 @@ ghost use Rattle.roster_timer.specs.Deadlines.{is_up, time_of};
 ghost use Rattle.roster_rules.specs.HardRules.{hard_faults};
 ghost use Rattle.roster_answers.specs.Answer.{Reports, outcome_of, output_of};
 ghost use Rattle.roster_cli.specs.Answer.{HasSearched, IsPlanFor, IsUnfound};
+ghost use Rattle.roster_cli.specs.Saving.{Shows};
 
+use crate::aids::Aids;
 use crate::polish::within_capacity;
 use roster_answers::{Fault, Instance, hold, show_weeks};
 use roster_case::Held;
 use roster_costs::{first_irreparable, missing};
 use roster_partial::RowSearcher;
-use roster_polish::{Course, PolishSpace, find_roster, polish_found, searches_fit_meter};
+use roster_polish::{Course, PolishSpace, Saves, find_roster, polish_found, searches_fit_meter};
 use roster_reports::LogFault;
 use roster_state::Meter;
 use roster_text::Watch;
@@ -21,8 +23,8 @@ use std::time::Clock;
 
 /// Writes the weeks of an instance after a run that looks for a roster that keeps the hard rules, and then
 /// polishes it. The run's log goes to the log first. The meter is a new one.
-pub(crate) fn report_plan<'a, K: Clock + Copy, Out: Write, Log: Write>(
-    alloc: Global,
+pub(crate) fn report_plan<'a, K: Clock + Copy, S: Saves, Out: Write, Log: Write>(
+    aids: &mut Aids<K, S>,
     course: &mut Course<K>,
     mut instance: Instance,
     meter: &mut Meter,
@@ -38,26 +40,35 @@ pub(crate) fn report_plan<'a, K: Clock + Copy, Out: Write, Log: Write>(
     ensures made { IfErr result (λ fault. HasSearched instance.case course.old.searches meter.new fault
         ⊎ (is_up (time_of course.new.deadline) ≡ true)) }
     ensures ends { course.new.deadline.ends ≡ course.old.deadline.ends }
+    ensures saved { Shows S.Saw Log.contents log.old instance.case instance.roster
+        aids.old.reporting.saver aids.new.reporting.saver }
 {
     if let Some(fault) = first_irreparable(&instance.case, &instance.roster, course.from) {
         return Err(Fault::Hard(fault, instance.into_case()));
     }
     let Instance { case, roster } = &mut instance;
-    let Ok(mut space) = PolishSpace::<RowSearcher>::for_roster(alloc, case, roster) else {
+    let Ok(mut space) = PolishSpace::<RowSearcher>::for_roster(aids.alloc, case, roster) else {
         return Err(Fault::Workspace);
     };
     let all = within_capacity(course);
     searches_fit_meter(case, all.searches);
-    let start = missing(case, roster);
+    aids.reporting.start = missing(case, roster);
     let rest = find_roster(case, roster, &all, &mut space, meter);
     course.deadline = rest.deadline;
-    let mut held = hold_found(alloc, instance)?;
+    let mut held = hold_found(aids.alloc, instance)?;
     let rest = Course {
         searches: rest.searches,
         deadline: rest.deadline,
         ..all
     };
-    match polish_found(&mut held, &rest, start, &mut space, meter, log) {
+    match polish_found(
+        &mut held,
+        &rest,
+        &mut aids.reporting,
+        &mut space,
+        meter,
+        log,
+    ) {
         Ok(_) => show_weeks(held.case(), held.roster(), output),
         Err(LogFault::LogFailed { .. }) => Err(Fault::Log),
     }

@@ -5,14 +5,17 @@ ghost use Rattle.std.specs.Io.KnownBytes.{Keeps};
 ghost use Rattle.std.specs.Io.Buffered.{writer_buffer, writer_contents};
 ghost use Rattle.roster_answers.specs.Answer.{Logs};
 ghost use Rattle.roster_cli.specs.Answer.{write_line};
+ghost use Rattle.roster_cli.specs.Saving.{ShowsSome};
 ghost use Rattle.roster_cli.specs.Start.{AnswersCommandLine, AnswersGiven, AnswersWords, AreUnread, AreWordsOf, EndsInFile, EndsOut, EndsOver, FailsToOpenAll, IsUnopened, OpensAll, OpensAndEnds, PrintsWords, SendsText};
 
-use crate::answer::run_timed;
+use crate::aids::Aids;
+use crate::answer::run_saving;
 use crate::faults::refuse_write;
 use crate::into_file::answer_into;
 use roster_answers::{refuse, refuse_output};
 use roster_input::Joined;
 use roster_out::{Disk, SystemDisk};
+use roster_polish::{NoSaves, Saves};
 use roster_request::{CliFault, Request, request_of};
 use roster_text::{TextFault, Watch, write_bytes};
 use std::alloc::Global;
@@ -174,7 +177,10 @@ fn answer_request<
         log.old log.new }
 {
     match &request.out {
-        None => answer_over(means, request, opener, input, output, log),
+        None => {
+            let mut aids = Aids::new(means.alloc, means.clock, NoSaves);
+            answer_over(&mut aids, request, opener, input, output, log)
+        }
         Some(path) => {
             let status = answer_into(means, request, path.as_str(), opener, input, log);
             (status, output)
@@ -185,14 +191,14 @@ fn answer_request<
 /// The same with an output that is open.
 pub(crate) fn answer_over<
     K: Clock + Copy,
-    D: Disk + Copy,
+    S: Saves,
     File: Read + Drop,
     F: FnMut(&str) -> io::Result<File>,
     In: Read + Drop,
     Out: Write + Drop,
     Log: Write,
 >(
-    means: Means<K, D>,
+    aids: &mut Aids<K, S>,
     request: &Request,
     opener: &mut F,
     input: In,
@@ -204,12 +210,11 @@ pub(crate) fn answer_over<
         (writer_contents Out.contents) writer_buffer Log.contents request.now input result.0 output
         result.1 log.old log.new }
 {
-    let Means { alloc, clock, .. } = means;
     if request.files.is_empty() {
-        return run_and_flush(alloc, request, clock, input, output, log);
+        return run_and_flush(aids, request, input, output, log);
     }
-    match open_all(alloc, &request.files, opener) {
-        Ok(files) => run_and_flush(alloc, request, clock, Joined::new(files), output, log),
+    match open_all(aids.alloc, &request.files, opener) {
+        Ok(files) => run_and_flush(aids, request, Joined::new(files), output, log),
         Err(fault) => (refuse(fault, log), output),
     }
 }
@@ -239,20 +244,21 @@ fn open_all<File: Drop, F: FnMut(&str) -> io::Result<File>>(
 }
 
 /// Answers a request over the bytes of one reader.
-fn run_and_flush<K: Clock + Copy, In: Read + Drop, Out: Write + Drop, Log: Write>(
-    alloc: Global,
+fn run_and_flush<K: Clock + Copy, S: Saves, In: Read + Drop, Out: Write + Drop, Log: Write>(
+    aids: &mut Aids<K, S>,
     request: &Request,
-    clock: K,
     input: In,
     output: BufWriter<Out>,
     log: &mut Watch<Log>,
 ) -> (u8, BufWriter<Out>)
-    ensures { EndsOver In.remaining (writer_contents Out.contents) writer_buffer Log.contents
+    ensures ends { EndsOver In.remaining (writer_contents Out.contents) writer_buffer Log.contents
         request.now input result.0 output result.1 log.old log.new }
+    ensures saved { ShowsSome S.Saw Log.contents log.old request.now.command
+        aids.old.reporting.saver aids.new.reporting.saver }
 {
     let mut input = Watch::new(input);
     let mut watched = Watch::new(output);
-    let status = run_timed(alloc, request, clock, &mut input, &mut watched, log);
+    let status = run_saving(aids, request, &mut input, &mut watched, log);
     let output = watched.into_inner();
     if status != 0 {
         return (status, output);

@@ -25,21 +25,21 @@ struct Shelf<'a> {
     /// What was done with the files, in decimal digits: for each file that was opened its number, counted
     /// from 1, and a 9 for reads. For a file that is made it is a 4, for its writes a 5, for its flush a 6,
     /// for its new name a 7, and for its end an 8.
-    done: &'a Cell<u32>,
+    done: &'a Cell<u64>,
     /// The digit of what fails, or 0.
-    fails: u32,
+    fails: u64,
 }
 
 /// An open file.
 #[derive(Drop)]
 struct Sheet<'a> {
     rest: &'a [u8],
-    done: &'a Cell<u32>,
-    fails: u32,
+    done: &'a Cell<u64>,
+    fails: u64,
 }
 
 /// Does what this digit stands for, or fails to.
-fn try_to(done: &Cell<u32>, digit: u32, fails: u32) -> io::Result<()> {
+fn try_to(done: &Cell<u64>, digit: u64, fails: u64) -> io::Result<()> {
     if done.get() % 10 != digit {
         note(done, digit);
     }
@@ -49,7 +49,7 @@ fn try_to(done: &Cell<u32>, digit: u32, fails: u32) -> io::Result<()> {
     Ok(())
 }
 
-fn note(done: &Cell<u32>, digit: u32) {
+fn note(done: &Cell<u64>, digit: u64) {
     done.set(done.get().saturating_mul(10).saturating_add(digit));
 }
 
@@ -104,7 +104,7 @@ impl OpenFile for Sheet<'_> {
 }
 
 impl<'a> Shelf<'a> {
-    fn opened(&self, index: usize, digit: u32) -> io::Result<Sheet<'a>> {
+    fn opened(&self, index: usize, digit: u64) -> io::Result<Sheet<'a>> {
         let Some(text) = self.texts.get(index) else {
             return Err(ErrorKind::NotFound.into());
         };
@@ -269,7 +269,7 @@ fn ends(
 
 /// Whether the program, with these words and mini in its first file, the second and third being empty, ends
 /// in this way and did this with the files.
-fn shows(alloc: Global, words: &[&[u8]], done: u32, end: End<'_>) -> Result<bool, Fail> {
+fn shows(alloc: Global, words: &[&[u8]], done: u64, end: End<'_>) -> Result<bool, Fail> {
     let did = Cell::new(0);
     let shelf = Shelf {
         words,
@@ -309,7 +309,7 @@ fn a_second_file_without_memory(rt: HostRuntime) -> Result<(), Fail> {
 
 /// Whether the best row over mini, with the file `x` for the roster, ends with this status and log, if what
 /// the digit stands for fails, and did this with the files.
-fn puts(alloc: Global, fails: u32, done: u32, (status, log): (u8, &str)) -> Result<bool, Fail> {
+fn puts(alloc: Global, fails: u64, done: u64, (status, log): (u8, &str)) -> Result<bool, Fail> {
     let did = Cell::new(0);
     let shelf = Shelf {
         words: &[b"roster", b"best", b"--nurse", b"Ann", b"--out", b"x", b"a"],
@@ -335,6 +335,44 @@ fn a_file_that_fails_at_each_step(rt: HostRuntime) -> Result<(), Fail> {
     assert!(rt; puts(rt.alloc(), 5, 4_819_458, (3, log))?);
     assert!(rt; puts(rt.alloc(), 6, 48_194_568, (3, log))?);
     assert!(rt; puts(rt.alloc(), 7, 481_945_678, (3, log))?);
+    Ok(())
+}
+
+/// Whether a run over mini that makes no search, with the file `x` for the roster, ends with this status and
+/// log, if what the digit stands for fails, and did this with the files. No time passes by its clock.
+fn saves(alloc: Global, fails: u64, done: u64, (status, log): (u8, &str)) -> Result<bool, Fail> {
+    let did = Cell::new(0);
+    let shelf = Shelf {
+        words: &[
+            b"roster",
+            b"polish",
+            b"--searches",
+            b"0",
+            b"--out",
+            b"x",
+            b"a",
+        ],
+        texts: &[MINI],
+        done: &did,
+        fails,
+    };
+    let is_end = ends(alloc, &shelf, "", false, (status, "", log))?;
+    Ok(is_end && did.get() == done)
+}
+
+#[test]
+fn a_run_saves_its_roster_at_the_first_line_and_at_the_end(rt: HostRuntime) -> Result<(), Fail> {
+    let log = "start 470\nsettled 0\n";
+    assert!(rt; saves(rt.alloc(), 0, 481_945_674_567, (0, log))?);
+    Ok(())
+}
+
+#[test]
+fn a_run_that_fails_to_save_at_each_step(rt: HostRuntime) -> Result<(), Fail> {
+    let log = "start 470\nsettled 0\nx: write failed\n";
+    assert!(rt; saves(rt.alloc(), 5, 4_819_458_458, (3, log))?);
+    assert!(rt; saves(rt.alloc(), 6, 481_945_684_568, (3, log))?);
+    assert!(rt; saves(rt.alloc(), 7, 48_194_567_845_678, (3, log))?);
     Ok(())
 }
 

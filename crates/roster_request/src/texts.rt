@@ -301,8 +301,8 @@ to neighbourhoods of that one. What is done there besides searches counts as
 searches too, by the work that it takes. With --kicks it is up to a half to find
 dual prices, and the others for kicks. With --searches 0 there is nothing of all
 this. The same texts, --searches, --seed, --kicks and --from give the same
-rosters. It pays to try several seeds. A run that is ended by Ctrl-C leaves no
-rosters, since they are written at its end.
+rosters. It pays to try several seeds. Without --out, a run that is ended by
+Ctrl-C leaves no rosters, since they are written at its end.
 
 With --seconds S, the run ends after that time if nothing else has ended it
 before, as it does when no search is left. Without --searches it makes as many
@@ -323,8 +323,10 @@ so that the roster stays much as it is. Then the log begins with a line
 With --out FILE, the rosters go to FILE, and standard output stays empty. They
 are written to a temporary file next to it, which is flushed to the disk and
 renamed onto FILE once it is whole, so that FILE has all of them, or what it had
-before. A FILE that is one of the inputs is refused, and so is one in a folder
-that can't be written.
+before. While the run goes on, FILE gets the rosters of the log's last line in
+the same way, at most once a second, so that a run that is ended by Ctrl-C
+leaves them. A FILE that is one of the inputs is refused, and so is one in a
+folder that can't be written.
 
 What isn't promised: how cheap the rosters get, for which see 'roster bound';
 how long the run takes. For its memory and the greatest number of extensions for
@@ -378,8 +380,8 @@ A search is one for the best row of a nurse. To find the roster, and then for
 the fade and the neighbourhoods, the run makes at most as many as --searches
 allows. The first descent makes as many as it needs, in up to 1,000,000 rounds.
 The same texts, --searches, --seed and --from give the same rosters. It pays to
-try several seeds. A run that is ended by Ctrl-C leaves no rosters, since they
-are written at its end.
+try several seeds. Without --out, a run that is ended by Ctrl-C leaves no
+rosters, since they are written at its end.
 
 With --seconds S, the run ends after that time if nothing else has ended it
 before. If no roster that keeps the hard rules is found by then, it answers
@@ -403,8 +405,10 @@ so that the roster stays much as it is. Then the log begins with a line
 With --out FILE, the rosters go to FILE, and standard output stays empty. They
 are written to a temporary file next to it, which is flushed to the disk and
 renamed onto FILE once it is whole, so that FILE has all of them, or what it had
-before. A FILE that is one of the inputs is refused, and so is one in a folder
-that can't be written.
+before. While the run goes on, FILE gets the rosters of the log's last line in
+the same way, at most once a second, so that a run that is ended by Ctrl-C
+leaves them. A FILE that is one of the inputs is refused, and so is one in a
+folder that can't be written.
 
 What isn't promised: that a roster is found if there is one; how cheap the
 rosters get, for which see 'roster bound'; how long the run takes. For its

@@ -1,4 +1,4 @@
-use Rattle.std.proofs.Common.{inl, inr, refl, rules}
+use Rattle.std.proofs.Common.{[], inl, inr, refl, rules}
 use Rattle.roster_answers.specs.declared.fault.Fault.TheVariants as fault
 use Rattle.roster_cli.proofs.AnswerLemmas.{unread}
 use Rattle.roster_cli.proofs.answer.run_command.Goals as goal
@@ -24,7 +24,10 @@ returns-clause-refused g c = λ other. record {
   refused = inr (record {
     bytes = c.deref.result.now;
     read = record { all = search rules; end = search rules; kept = search rules; failures = search rules };
-    answers = c.in-Err-report_bytes.ensures;
+    answers = c.in-Err-report_bytes.ensures.answers;
   });
   reported = c.report_to.ensures.line;
 }
+
+pub returns-in-Err-clause-saved : goal.returns-in-Err-clause-saved
+returns-in-Err-clause-saved g c = ([], inl refl)

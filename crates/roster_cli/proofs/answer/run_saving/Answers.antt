@@ -3,7 +3,7 @@ use Rattle.std.specs.Prelude.{Contains}
 use Rattle.std.proofs.lemmas.Bool.{cases_eq}
 use Rattle.roster_cli.proofs.AnswerLemmas.{status_listed}
 use Rattle.roster_cli.proofs.RunLemmas.{write_failed}
-use Rattle.roster_cli.proofs.answer.run_timed.Goals as goal
+use Rattle.roster_cli.proofs.answer.run_saving.Goals as goal
 
 pub returns-clause-status : goal.returns-clause-status
 returns-clause-status g c = go (cases_eq c.run_command.result 0)

@@ -18,6 +18,8 @@ use Rattle.roster_polish.specs.Polished.{PolishLogStops, Polishes, most_searches
 use Rattle.roster_polish.specs.declared.run.Course.{Course}
 use Rattle.roster_answers.specs.Answer.{Output, StopsOutput}
 use Rattle.roster_answers.specs.declared.fault.Fault.TheVariants as fault
+use Rattle.roster_polish.specs.Shown.{SawOnlyReported}
+use Rattle.roster_cli.specs.Saving.{Shows}
 use Rattle.roster_cli.proofs.PlanLemmas.{plan_ends, plan_refused, plan_roomless, plan_stops, plan_unfound, unfound_after, written_after}
 use Rattle.roster_cli.proofs.plan.report_plan.Given as given
 use Rattle.roster_cli.proofs.plan.report_plan.Goals as goal
@@ -96,14 +98,14 @@ kept g c = c.in_ok-held.ensures.kept
 -- what holds for the held roster, the course and the number at the beginning of the log holds for what was
 -- given and found
 as_given : (g : given.Over) (c : After-polish_found g) (P : (m : Meaning) (from : ℕ) (r : Rows) (start : ℕ) (alone : Bool) → Type 0)
-    → P c.in_ok-held.held.case c.within_capacity-all.result.from c.in_ok-held.held.roster c.missing-start.result c.within_capacity-all.result.kicks_alone
+    → P c.in_ok-held.held.case c.within_capacity-all.result.from c.in_ok-held.held.roster c.missing-aids.result c.within_capacity-all.result.kicks_alone
     → P c.args.instance.case c.args.course.now.from c.find_roster-rest.new.roster (missing c.args.instance.case c.args.instance.roster) c.args.course.now.kicks_alone
 as_given g c P polished =
     let k = c.args.instance.case in
     let nearest = c.find_roster-rest.new.roster in
-    let of_held = subst (λ (h : HeldRoster). P h.case c.within_capacity-all.result.from h.roster c.missing-start.result c.within_capacity-all.result.kicks_alone) (held_is g c) polished in
-    let of_course = subst (λ (x : Course g.row.K.Denot). P k x.from nearest c.missing-start.result x.kicks_alone) c.within_capacity-all.ensures of_held in
-    subst (λ n. P k c.args.course.now.from nearest n c.args.course.now.kicks_alone) c.missing-start.ensures of_course
+    let of_held = subst (λ (h : HeldRoster). P h.case c.within_capacity-all.result.from h.roster c.missing-aids.result c.within_capacity-all.result.kicks_alone) (held_is g c) polished in
+    let of_course = subst (λ (x : Course g.row.K.Denot). P k x.from nearest c.missing-aids.result x.kicks_alone) c.within_capacity-all.ensures of_held in
+    subst (λ n. P k c.args.course.now.from nearest n c.args.course.now.kicks_alone) c.missing-aids.ensures of_course
 
 pub returns-in-Ok-polish_found-clause-reports : goal.returns-in-Ok-polish_found-clause-reports
 returns-in-Ok-polish_found-clause-reports g c =
@@ -134,3 +136,36 @@ returns-clause-reports g c =
     let stops = as_given g at.After-polish_found (λ m from r start alone. PolishLogStops g.Log.Write.contents m from r start c.find_roster-rest.result.searches alone last c.args.log.now c.polish_found.new.log f) c.in-Err-LogFailed.ensures.err in
     plan_stops c.args.course.now.searches c.args.course.now.from c.args.course.now.kicks_alone c.args.instance.case c.args.instance.roster output log
     (repaired g at.After-find_roster-rest) c.find_roster-rest.new.roster (λ e. c.find_roster-rest.ensures.roster) (planned g at.After-find_roster-rest) (kept g at.After-polish_found) c.find_roster-rest.result.searches (few g at.After-find_roster-rest) last f stops refl
+
+-- ---- what is shown
+
+pub returns-in-Some-clause-saved : goal.returns-in-Some-clause-saved
+returns-in-Some-clause-saved g c = inl refl
+
+pub returns-in_default-for_roster-clause-saved : goal.returns-in_default-for_roster-clause-saved
+returns-in_default-for_roster-clause-saved g c = inl refl
+
+pub returns-in_err-held-clause-saved : goal.returns-in_err-held-clause-saved
+returns-in_err-held-clause-saved g c = inl refl
+
+shown : (g : given.Over) (c : After-polish_found g) → IsPlanned c.args.instance.case c.args.course.now.from c.args.instance.roster c.find_roster-rest.new.roster → Shows g.S.Saves.Saw g.Log.Write.contents c.args.log.now c.args.instance.case c.args.instance.roster c.args.aids.now.reporting.saver c.polish_found.new.reporting.saver
+shown g c planned =
+    inr (
+      c.args.course.now.from,
+      record {
+        begun = c.find_roster-rest.new.roster;
+        planned = planned;
+        start = missing c.args.instance.case c.args.instance.roster;
+        shown = as_given g c (λ m from r start alone. SawOnlyReported g.Log.Write.contents g.S.Saves.Saw m from r start c.args.log.now c.args.aids.now.reporting.saver c.polish_found.new.reporting.saver) c.polish_found.ensures.saved;
+      },
+    )
+
+pub returns-in-Ok-polish_found-clause-saved : goal.returns-in-Ok-polish_found-clause-saved
+returns-in-Ok-polish_found-clause-saved g c =
+    let at = goal.at.returns-in-Ok-polish_found-clause-saved g c in
+    shown g at.After-polish_found (planned g at.After-find_roster-rest)
+
+pub returns-clause-saved : goal.returns-clause-saved
+returns-clause-saved g c =
+    let at = goal.at.returns-clause-saved g c in
+    shown g at.After-polish_found (planned g at.After-find_roster-rest)
