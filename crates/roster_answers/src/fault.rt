@@ -1,6 +1,7 @@
 //! Why a command stops.
 
 use roster_instance::{Case, CaseFault};
+use roster_json::NotWritten;
 use roster_rules::HardFault;
 use roster_text::{TextFault, WriteFault};
 
@@ -64,6 +65,17 @@ impl<'a> From<WriteFault> for Fault<'a> {
     ghost from_gives = { λ _ f. f ≡ fault.Output };
 
     fn from(_e: WriteFault) -> Fault<'a> {
+        Fault::Output
+    }
+}
+
+impl<'a> From<NotWritten> for Fault<'a> {
+    ghost use Rattle.std.specs.Prelude.{◌≡◌};
+    ghost use Rattle.roster_answers.specs.declared.fault.Fault.TheVariants as fault;
+
+    ghost from_gives = { λ _ f. f ≡ fault.Output };
+
+    fn from(_e: NotWritten) -> Fault<'a> {
         Fault::Output
     }
 }

@@ -10,12 +10,12 @@ use crate::fault::Fault;
 use crate::instance::Instance;
 use roster_costs::first_irreparable;
 use roster_instance::Case;
-use roster_json::write_json_taker;
+use roster_json::{NotWritten, write_json_taker};
 use roster_offers::SearchesRows;
 use roster_reports::write_taker;
 use roster_rounds::rounds_have_room;
 use roster_state::Meter;
-use roster_text::{Watch, WriteFault};
+use roster_text::Watch;
 use roster_who::{Taker, Takers, find_takers};
 use std::alloc::Global;
 use std::io::Write;
@@ -87,7 +87,7 @@ fn write_takers<Out: Write>(
     json: bool,
     takers: &Takers,
     output: &mut Watch<Out>,
-) -> Result<(), WriteFault>
+) -> Result<(), NotWritten>
     requires nurses { All (λ taker. taker.nurse < nurse_count case.now) takers.now.listed.items }
     ensures ok { OnOk result (Writes Out.contents output.old output.new
         (who_text case.now json takers.now.missed takers.now.listed.items)) }
@@ -109,7 +109,7 @@ fn write_line<Out: Write>(
     missed: u64,
     taker: Taker,
     output: &mut Watch<Out>,
-) -> Result<(), WriteFault>
+) -> Result<(), NotWritten>
     requires { taker.nurse < nurse_count case.now }
     ensures ok { OnOk result (Writes Out.contents output.old output.new
         (who_line case.now json missed taker)) }
@@ -126,5 +126,8 @@ fn write_line<Out: Write>(
         return write_json_taker(output, case, nurse, penalty, changed, lacking);
     }
     let still = if missed > 0 { Some(lacking) } else { None };
-    write_taker(output, case.nurse_name(nurse), penalty, changed, still)
+    match write_taker(output, case.nurse_name(nurse), penalty, changed, still) {
+        Ok(()) => Ok(()),
+        Err(_) => Err(NotWritten),
+    }
 }

@@ -9,10 +9,11 @@ ghost use Rattle.roster_rules.specs.HardRules.{hard_faults, staffing_faults};
 ghost use Rattle.roster_json.specs.Breaches.{breach_line, breach_of, breaches_text, breaks, fault_on, faults_by, faults_of, rule_word, slot_fault, staffing_faults_on};
 
 use crate::object::{Field, write_object};
+use crate::pieces::NotWritten;
 use roster_costs::{covers, slot};
 use roster_instance::{Case, Roster, Shift, Skill};
 use roster_rules::{is_able, is_here, last_shift};
-use roster_text::{Watch, WriteFault};
+use roster_text::Watch;
 use std::io::Write;
 
 /// A hard rule that a nurse's row can break.
@@ -31,7 +32,7 @@ pub(crate) fn write_breaches<W: Write>(
     out: &mut Watch<W>,
     case: &Case,
     roster: &Roster,
-) -> Result<(), WriteFault>
+) -> Result<(), NotWritten>
     requires { fits_case case.now roster.now ≡ true }
     ensures ok { OnOk result (Writes W.contents out.old out.new
         (breaches_text case.now (hard_faults case.now roster.now))) }
@@ -51,7 +52,7 @@ fn write_short_slots<W: Write>(
     out: &mut Watch<W>,
     case: &Case,
     roster: &Roster,
-) -> Result<(), WriteFault>
+) -> Result<(), NotWritten>
     requires { fits_case case.now roster.now ≡ true }
     ensures ok { OnOk result (Writes W.contents out.old out.new
         (breaches_text case.now (staffing_faults case.now roster.now))) }
@@ -70,7 +71,7 @@ fn write_short_on<W: Write>(
     case: &Case,
     roster: &Roster,
     day: u16,
-) -> Result<(), WriteFault>
+) -> Result<(), NotWritten>
     requires { fits_case case.now roster.now ≡ true }
     ensures ok { OnOk result (Writes W.contents out.old out.new
         (breaches_text case.now (staffing_faults_on case.now roster.now day))) }
@@ -96,7 +97,7 @@ fn write_if_short<W: Write>(
     shift: Shift,
     skill: Skill,
     have: u16,
-) -> Result<(), WriteFault>
+) -> Result<(), NotWritten>
     requires shift { shift.0 < shift_count case.now }
     requires skill { skill.0 < skill_count case.now }
     ensures ok { OnOk result (Writes W.contents out.old out.new
@@ -134,7 +135,7 @@ fn write_breaches_by<W: Write>(
     case: &Case,
     roster: &Roster,
     rule: NurseRule,
-) -> Result<(), WriteFault>
+) -> Result<(), NotWritten>
     requires { fits_case case.now roster.now ≡ true }
     ensures ok { OnOk result (Writes W.contents out.old out.new
         (breaches_text case.now (faults_by case.now roster.now rule))) }
@@ -154,7 +155,7 @@ fn write_breaches_of<W: Write>(
     roster: &Roster,
     rule: NurseRule,
     nurse: usize,
-) -> Result<(), WriteFault>
+) -> Result<(), NotWritten>
     requires fitting { fits_case case.now roster.now ≡ true }
     requires within { nurse < nurse_count case.now }
     ensures ok { OnOk result (Writes W.contents out.old out.new
@@ -176,7 +177,7 @@ fn write_if_broken<W: Write>(
     rule: NurseRule,
     nurse: usize,
     day: u16,
-) -> Result<(), WriteFault>
+) -> Result<(), NotWritten>
     requires fitting { fits_case case.now roster.now ≡ true }
     requires within { nurse < nurse_count case.now }
     requires day { day < day_count case.now }
@@ -198,7 +199,7 @@ fn write_nurse_breach<W: Write>(
     rule: NurseRule,
     nurse: usize,
     day: u16,
-) -> Result<(), WriteFault>
+) -> Result<(), NotWritten>
     requires { nurse < nurse_count case.now }
     ensures ok { OnOk result (Writes W.contents out.old out.new
         (breach_line case.now (breach_of rule nurse day))) }

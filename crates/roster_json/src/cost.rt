@@ -10,10 +10,11 @@ ghost use Rattle.roster_json.specs.Reports.{costs_line, json_cost};
 
 use crate::breaches::write_breaches;
 use crate::object::{Field, write_object};
+use crate::pieces::NotWritten;
 use roster_costs::{costs, first_hard};
 use roster_instance::{Case, Roster};
 use roster_rules::Costs;
-use roster_text::{Watch, WriteFault};
+use roster_text::Watch;
 use std::io::Write;
 
 /// Writes a line for each breach of the hard rules, and one for what the roster costs. It may break the hard
@@ -22,7 +23,7 @@ pub fn write_json_cost<W: Write>(
     out: &mut Watch<W>,
     case: &Case,
     roster: &Roster,
-) -> Result<(), WriteFault>
+) -> Result<(), NotWritten>
     requires { fits_case case.now roster.now ≡ true }
     ensures ok { OnOk result (Writes W.contents out.old out.new (json_cost case.now roster.now)) }
     ensures err { OnErr result (Stops W.contents out.old out.new (json_cost case.now roster.now)) }
@@ -43,7 +44,7 @@ fn is_allowed(case: &Case, roster: &Roster) -> bool
 }
 
 /// Writes the line of the costs.
-fn write_costs<W: Write>(out: &mut Watch<W>, allowed: bool, costs: Costs) -> Result<(), WriteFault>
+fn write_costs<W: Write>(out: &mut Watch<W>, allowed: bool, costs: Costs) -> Result<(), NotWritten>
     requires { total_cost costs < penalty_limit }
     ensures ok { OnOk result (Writes W.contents out.old out.new (costs_line allowed costs)) }
     ensures err { OnErr result (Stops W.contents out.old out.new (costs_line allowed costs)) }

@@ -15,5 +15,6 @@ mod taker;
 
 pub use cost::write_json_cost;
 pub use object::Field;
+pub use pieces::NotWritten;
 pub use sizes::write_json_sizes;
 pub use taker::write_json_taker;

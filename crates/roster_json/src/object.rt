@@ -4,9 +4,9 @@ ghost use Rattle.std.specs.Prelude.{◌≡◌, OnErr, OnOk, flat_map, map};
 ghost use Rattle.roster_text.specs.Io.{Stops, Writes};
 ghost use Rattle.roster_json.specs.Json.{member_of, next_text, object_line};
 
-use crate::pieces::put;
+use crate::pieces::{NotWritten, put};
 use crate::strings::write_string;
-use roster_text::{Piece, Watch, WriteFault};
+use roster_text::{Piece, Watch};
 use std::io::Write;
 
 /// A field of an object: its key, which needs no escapes, and its value. A name has the bytes of the input.
@@ -22,7 +22,7 @@ pub(crate) fn write_object<W: Write>(
     out: &mut Watch<W>,
     kind: &str,
     fields: &[Field<'_>],
-) -> Result<(), WriteFault>
+) -> Result<(), NotWritten>
     ensures ok { OnOk result (Writes W.contents out.old out.new
         (object_line kind.now (map member_of fields.now))) }
     ensures err { OnErr result (Stops W.contents out.old out.new
@@ -40,7 +40,7 @@ pub(crate) fn write_object<W: Write>(
     put(out, &[Piece::Bytes(b"}\n")])
 }
 
-fn write_fields<W: Write>(out: &mut Watch<W>, fields: &[Field<'_>]) -> Result<(), WriteFault>
+fn write_fields<W: Write>(out: &mut Watch<W>, fields: &[Field<'_>]) -> Result<(), NotWritten>
     ensures ok { OnOk result (Writes W.contents out.old out.new
         (flat_map (λ field. next_text (member_of field)) fields.now)) }
     ensures err { OnErr result (Stops W.contents out.old out.new
@@ -52,7 +52,7 @@ fn write_fields<W: Write>(out: &mut Watch<W>, fields: &[Field<'_>]) -> Result<()
     Ok(())
 }
 
-fn write_field<W: Write>(out: &mut Watch<W>, field: Field<'_>) -> Result<(), WriteFault>
+fn write_field<W: Write>(out: &mut Watch<W>, field: Field<'_>) -> Result<(), NotWritten>
     ensures ok { OnOk result (Writes W.contents out.old out.new
         (next_text (member_of field.entry))) }
     ensures err { OnErr result (Stops W.contents out.old out.new
@@ -77,7 +77,7 @@ fn key(field: Field<'_>) -> &str
     }
 }
 
-fn write_value<W: Write>(out: &mut Watch<W>, field: Field<'_>) -> Result<(), WriteFault>
+fn write_value<W: Write>(out: &mut Watch<W>, field: Field<'_>) -> Result<(), NotWritten>
     ensures ok { OnOk result (Writes W.contents out.old out.new (member_of field.entry).1) }
     ensures err { OnErr result (Stops W.contents out.old out.new (member_of field.entry).1) }
 {

@@ -6,13 +6,14 @@ ghost use Rattle.roster_instance.specs.Meaning.{nurse_count};
 ghost use Rattle.roster_json.specs.Reports.{json_sizes, size_line};
 
 use crate::object::{Field, write_object};
+use crate::pieces::NotWritten;
 use roster_instance::Case;
 use roster_state::Ranges;
-use roster_text::{Watch, WriteFault};
+use roster_text::Watch;
 use std::io::Write;
 
 /// Writes a line for each nurse.
-pub fn write_json_sizes<W: Write>(out: &mut Watch<W>, case: &Case) -> Result<(), WriteFault>
+pub fn write_json_sizes<W: Write>(out: &mut Watch<W>, case: &Case) -> Result<(), NotWritten>
     ensures ok { OnOk result (Writes W.contents out.old out.new (json_sizes case.now)) }
     ensures err { OnErr result (Stops W.contents out.old out.new (json_sizes case.now)) }
 {
@@ -23,7 +24,7 @@ pub fn write_json_sizes<W: Write>(out: &mut Watch<W>, case: &Case) -> Result<(),
 }
 
 /// Writes a nurse's number and name, and how many states, labels, pointers and extensions the search takes.
-fn write_size<W: Write>(out: &mut Watch<W>, case: &Case, nurse: usize) -> Result<(), WriteFault>
+fn write_size<W: Write>(out: &mut Watch<W>, case: &Case, nurse: usize) -> Result<(), NotWritten>
     requires { nurse < nurse_count case.now }
     ensures ok { OnOk result (Writes W.contents out.old out.new (size_line case.now nurse)) }
     ensures err { OnErr result (Stops W.contents out.old out.new (size_line case.now nurse)) }

@@ -5,13 +5,13 @@ ghost use Rattle.std.specs.Str.Lossy.{utf8_lossy};
 ghost use Rattle.roster_text.specs.Io.{Stops, Writes};
 ghost use Rattle.roster_json.specs.Json.{chunk_text, escaped, hex_digit, string_text};
 
-use crate::pieces::put;
-use roster_text::{Piece, Watch, WriteFault};
+use crate::pieces::{NotWritten, put};
+use roster_text::{Piece, Watch};
 use std::io::Write;
 use std::str::Utf8Chunk;
 
 /// Writes a name in quotes, with escapes, and with U+FFFD for what isn't UTF-8.
-pub(crate) fn write_string<W: Write>(out: &mut Watch<W>, name: &[u8]) -> Result<(), WriteFault>
+pub(crate) fn write_string<W: Write>(out: &mut Watch<W>, name: &[u8]) -> Result<(), NotWritten>
     ensures ok { OnOk result (Writes W.contents out.old out.new (string_text name.now)) }
     ensures err { OnErr result (Stops W.contents out.old out.new (string_text name.now)) }
 {
@@ -21,7 +21,7 @@ pub(crate) fn write_string<W: Write>(out: &mut Watch<W>, name: &[u8]) -> Result<
 }
 
 /// Writes what stands between the quotes.
-fn write_lossy<W: Write>(out: &mut Watch<W>, name: &[u8]) -> Result<(), WriteFault>
+fn write_lossy<W: Write>(out: &mut Watch<W>, name: &[u8]) -> Result<(), NotWritten>
     ensures ok { OnOk result (Writes W.contents out.old out.new
         (flat_map escaped (utf8_lossy name.now))) }
     ensures err { OnErr result (Stops W.contents out.old out.new
@@ -34,7 +34,7 @@ fn write_lossy<W: Write>(out: &mut Watch<W>, name: &[u8]) -> Result<(), WriteFau
 }
 
 /// Writes a part of a name that is UTF-8, and U+FFFD if bytes that aren't come after it.
-fn write_chunk<W: Write>(out: &mut Watch<W>, chunk: &Utf8Chunk<'_>) -> Result<(), WriteFault>
+fn write_chunk<W: Write>(out: &mut Watch<W>, chunk: &Utf8Chunk<'_>) -> Result<(), NotWritten>
     ensures ok { OnOk result (Writes W.contents out.old out.new
         (flat_map escaped (chunk_text chunk.now))) }
     ensures err { OnErr result (Stops W.contents out.old out.new
@@ -48,7 +48,7 @@ fn write_chunk<W: Write>(out: &mut Watch<W>, chunk: &Utf8Chunk<'_>) -> Result<()
 }
 
 /// Writes bytes with escapes.
-fn write_escaped<W: Write>(out: &mut Watch<W>, bytes: &[u8]) -> Result<(), WriteFault>
+fn write_escaped<W: Write>(out: &mut Watch<W>, bytes: &[u8]) -> Result<(), NotWritten>
     ensures ok { OnOk result (Writes W.contents out.old out.new (flat_map escaped bytes.now)) }
     ensures err { OnErr result (Stops W.contents out.old out.new (flat_map escaped bytes.now)) }
 {
@@ -58,7 +58,7 @@ fn write_escaped<W: Write>(out: &mut Watch<W>, bytes: &[u8]) -> Result<(), Write
     Ok(())
 }
 
-fn write_byte<W: Write>(out: &mut Watch<W>, byte: u8) -> Result<(), WriteFault>
+fn write_byte<W: Write>(out: &mut Watch<W>, byte: u8) -> Result<(), NotWritten>
     ensures ok { OnOk result (Writes W.contents out.old out.new (escaped byte)) }
     ensures err { OnErr result (Stops W.contents out.old out.new (escaped byte)) }
 {

@@ -6,8 +6,9 @@ ghost use Rattle.roster_instance.specs.Meaning.{nurse_count};
 ghost use Rattle.roster_json.specs.Reports.{json_taker};
 
 use crate::object::{Field, write_object};
+use crate::pieces::NotWritten;
 use roster_instance::Case;
-use roster_text::{Watch, WriteFault};
+use roster_text::Watch;
 use std::io::Write;
 
 /// Writes the line of a nurse who may take an assignment.
@@ -18,7 +19,7 @@ pub fn write_json_taker<W: Write>(
     penalty: u64,
     changed: u16,
     missed: u64,
-) -> Result<(), WriteFault>
+) -> Result<(), NotWritten>
     requires { nurse < nurse_count case.now }
     ensures ok { OnOk result (Writes W.contents out.old out.new
         (json_taker case.now nurse penalty changed missed)) }
