@@ -178,8 +178,6 @@ def check_search(options: ImproveOptions) -> None:
         raise DeskError("--seed and --seeds: these name the seeds of the same runs; give one of the two", 2)
     if options.seed is not None and not (has_polish or options.plan):
         raise DeskError("--seed: this is the seed of polish and of plan; say how long by --polish or --seconds", 2)
-    if options.slice is not None and not has_polish:
-        raise DeskError("--slice: slices are of polish; say how long by --polish or --seconds", 2)
     if options.rounds is not None and options.plan:
         raise DeskError("--rounds: with --plan there are no rounds; leave one of the two out", 2)
 
@@ -196,10 +194,10 @@ def check_near(options: ImproveOptions) -> None:
         raise DeskError("--candidate: this is one of the rosters that --few finds; give that, too", 2)
     if options.few:
         several = "--few: it asks 'roster plan' with several --keep, by one seed"
-        leave_out(several, "plan", "rounds", "keep", "bound", "seeds", "slice")
+        leave_out(several, "plan", "rounds", "keep", "bound", "seeds")
     if options.keep is not None:
         message = "--keep: changes count from the roster given, so there is one run of roster"
-        leave_out(f"{message}, by one seed, and no lower bound", "bound", "seeds", "slice")
+        leave_out(f"{message}, by one seed, and no lower bound", "bound", "seeds")
         if options.seconds is not None and not options.plan:
             raise DeskError(f"{message}; say how long by --polish or --rounds, or look by --plan", 2)
 
@@ -322,7 +320,7 @@ def search(options: ImproveOptions, run: improve.Run, seeds: list[int], end: flo
     if not options.plan:
         run.rounds(0 if is_optimal else rounds, end)
     if options.polish is not None or end is not None:
-        polish.go_on(run, polish.Course(options.polish, seeds, options.slice, end, len(run.start.case.nurses)))
+        polish.go_on(run, polish.Course(options.polish, seeds, end))
     return []
 
 

@@ -109,9 +109,10 @@ class Run:
         self.given, self.end, self.total, self.saved = self.texts(), b"", 0, ""
         # (what `polish` begins with; and what a message says if nothing was put into the file)
         self.begun, self.lacking = self.given, "no round was over"
-        # (how much was searched by runs of `polish` and `plan` that are over, and how long each round took)
-        self.searches = 0
-        self.round_seconds: list[float] = []
+        # (how much was searched by runs of `polish` and `plan` that are over, as far as it is known; whether there was such a run; and the
+        # seed of the one that found what the file has)
+        self.searches, self.is_by_seed = 0, False
+        self.seed: int | None = None
         # a file that can't be replaced is an error before the first round
         with Replacement(self.out, b""):
             pass
@@ -121,14 +122,22 @@ class Run:
     def texts(self) -> Texts:
         return Texts([*self.before.texts, Text(SO_FAR, self.solutions)])
 
-    def save(self, solutions: bytes, total: int, what: str) -> None:
-        """Replaces the file, once the roster has been read back and costs what the log says."""
+    def cost(self, solutions: bytes, reported: collections.abc.Sequence[int]) -> int:
+        """What a roster costs by `roster cost`: one of the penalties that the log has reported."""
         texts = Texts([*self.before.texts, Text(self.out, solutions)])
         cost, kept = costs_by(self.roster, texts)["total"], self.kept(texts)
-        if cost != total - kept:
+        if cost + kept not in reported:
             by_keep = f" less {kept} by --keep" if kept else ""
-            message = f"the log says {total}{by_keep}, and 'roster cost' {cost}; {shown(self.label)} isn't replaced"
+            message = f"the log says {reported[-1]}{by_keep}, and 'roster cost' {cost}; {shown(self.label)} isn't replaced"
             raise DeskError(f"{message}. This is a fault of the desk", 3)
+        return cost
+
+    def save(self, solutions: bytes, total: int, what: str) -> None:
+        """Replaces the file, once the roster has been read back and costs what the log says."""
+        self.put(solutions, self.cost(solutions, [total]), what)
+
+    def put(self, solutions: bytes, cost: int, what: str) -> None:
+        """Replaces the file by a roster of this cost, once it has been read back."""
         with held_back(), read_back(self.roster, self.before, solutions, [(self.out, solutions)]) as (new,):
             self.look(solutions, f"after {what}, which costs {cost}")
             new.put()
@@ -173,7 +182,7 @@ class Run:
         found = [f"time {time.monotonic() - self.progress.began:.1f}"]
         found += [f"searches {self.searches}"] if self.searches else []
         found += self.bound_search.lines(self.total if self.saved else None)
-        if self.searches:
+        if self.searches or self.is_by_seed:
             found.append(f"seed {seeds[0]}" + (f"-{seeds[-1]}" if seeds[1:] else ""))
         return [*found, f"version {self.roster.version()}"]
 
@@ -212,9 +221,8 @@ class Run:
 
     def round(self, number: int, count: int) -> None:
         """Makes one round, or none."""
-        began, words = time.monotonic(), ["improve", "--rounds", str(count), *self.words]
+        words = ["improve", "--rounds", str(count), *self.words]
         answer = self.roster.ask(words, self.texts(), lambda line: self.pass_on(line, number))
-        self.round_seconds.append(time.monotonic() - began)
         self.save(answer.output, number_of(answer.end()), f"round {number}" if count else "no round")
         self.end = answer.end()
 
@@ -242,6 +250,7 @@ class Run:
             # (the first has no penalty)
             self.progress.line(line.replace(b"start ", b"missing "))
         self.save(found[0].output, number_of(found[0].end()), "plan")
+        self.seed = seed
         self.end, self.begun = found[0].end(), self.texts()
         self.progress.line(self.end)
 

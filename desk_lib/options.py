@@ -184,7 +184,6 @@ class ImproveOptions(Options):
     seconds: int | None
     seed: int | None
     seeds: list[int] | None
-    slice: int | None
     log: str | None
     publish: bool = False
 

@@ -200,5 +200,3 @@ def with_polish(parser: argparse.ArgumentParser) -> None:
         help="a run of polish by each seed from A to B, as many at once as there are processors; the cheapest roster is"
         " kept, and the log has what each comes to",
     )
-    of_slice = "searches of a slice (as many as take some 3 seconds if not given)"
-    parser.add_argument("--slice", type=searches, metavar="M", help=of_slice)

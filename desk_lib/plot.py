@@ -9,7 +9,8 @@ WIDTH, HEIGHT, LEFT, RIGHT, TOP, BOTTOM = 720, 260, 56, 78, 24, 36
 ASIDE, BELOW = 22, 15
 LINE = re.compile(rb"(start|round|settled|stopped|fade|kick|slice|few|\d+)(?: (.*))? (\d+)", re.S)
 # Lines without what the roster costs: how many nurses the minimums miss, what a changed day costs more, what a run by another seed
-# comes to, and at the end of the file of --log how the run was made. (In logs that the desk wrote before, a bound has another name.)
+# comes to, and at the end of the file of --log how the run was made. (Logs that the desk wrote before have slices, short runs of polish, and
+# another name for a bound.)
 OLD_BOUND = b"floor"
 OTHER = re.compile(rb"(missing|keep|seed|time|searches|bound|" + OLD_BOUND + rb"|optimal:|version) \S.*", re.S)
 

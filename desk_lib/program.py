@@ -56,11 +56,9 @@ class Running:
     with the desk, however that ends, or after that many seconds, if a number is given.
     """
 
-    def __init__(self, path: str, words: list[str], text: bytes, niceness: int = 0, seconds: float = 0):
+    def __init__(self, path: str, words: list[str], text: bytes, seconds: float = 0):
         self.words, self.rest, self.is_over = words, b"", False
         self.log: list[bytes] = []
-        # (how many seconds of a processor it took, once it is over)
-        self.of_processor = 0.0
         self.output, desk = open(os.memfd_create("output"), "w+b"), os.getpid()
         with open(os.memfd_create("input"), "w+b") as given:
             given.write(text)
@@ -72,7 +70,7 @@ class Running:
                     stdin=given,
                     stdout=self.output,
                     stderr=subprocess.PIPE,
-                    preexec_fn=lambda: tie_to(desk, niceness, seconds),
+                    preexec_fn=lambda: tie_to(desk, seconds),
                 )
             except OSError as why:
                 raise DeskError(f"{shown(path)} can't be run: {why.strerror}; --roster names the program", 3) from None
@@ -85,11 +83,15 @@ class Running:
     def __exit__(self, *_: object) -> None:
         self.close()
 
-    def close(self) -> None:
-        """Ends it."""
+    def kill(self) -> None:
+        """Ends it, if it goes on. What it has written of its log can still be read."""
         if self.ran.poll() is None:
             self.ran.kill()
             self.ran.wait()
+
+    def close(self) -> None:
+        """Ends it, and leaves nothing to read."""
+        self.kill()
         self.stderr.close()
         self.output.close()
 
@@ -112,11 +114,9 @@ class Running:
 
     def answer(self) -> Answer:
         """What the program answered, once it is over."""
-        if self.ran.returncode is None:
-            _, status, used = os.wait4(self.ran.pid, 0)
-            self.ran.returncode, self.of_processor = os.waitstatus_to_exitcode(status), used.ru_utime + used.ru_stime
+        status = self.ran.wait()
         self.output.seek(0)
-        return Answer(self.ran.returncode, self.output.read(), self.log)
+        return Answer(status, self.output.read(), self.log)
 
     def taken(self, texts: Texts) -> Answer:
         """As `answer`, and a refusal is an error that names the file."""
@@ -139,15 +139,12 @@ def refusal(words: str, answer: Answer, texts: Texts) -> DeskError:
     return DeskError(message, answer.status)
 
 
-def tie_to(desk: int, niceness: int, seconds: float) -> None:
-    """In the new process, before it is the program: sees to it that it ends with the desk, and after some seconds if a number is given,
-    and that it is as nice as it is to be."""
+def tie_to(desk: int, seconds: float) -> None:
+    """In the new process, before it is the program: sees to it that it ends with the desk, and after some seconds if a number is given."""
     LIBC.prctl(SET_DEATH_SIGNAL, signal.SIGKILL)
     if os.getppid() != desk:
         os._exit(1)
-    # (with a session of its own it would be as nice as any)
     os.setpgid(0, 0)
-    os.nice(niceness)
     # (the alarm stays with the process when it becomes the program, and ends that)
     signal.setitimer(signal.ITIMER_REAL, seconds)
 
@@ -158,9 +155,9 @@ class Program:
     def __init__(self, path: str):
         self.path = path
 
-    def start(self, words: list[str], text: bytes, niceness: int = 0, seconds: float = 0) -> Running:
+    def start(self, words: list[str], text: bytes, seconds: float = 0) -> Running:
         """Begins a run over the text, in which numbers that can't bind are cut."""
-        return Running(self.path, words, cut(text), niceness, seconds)
+        return Running(self.path, words, cut(text), seconds)
 
     def version(self) -> str:
         return shown(self.call(["--version"], b"").output.rstrip())

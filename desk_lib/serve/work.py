@@ -127,7 +127,7 @@ def run_improve(asked: Json) -> Json:
         return {"error": why or "nothing was found until it was stopped"}
     bound = found.bound_search.known
     has = {"solutions": coded(found.solutions), "penalty": found.total, "after": found.saved, "searches": found.searches}
-    return {**has, "changes": found.changes(), "bound": bound, "error": why, "seed": asked["seed"] if found.searches else None}
+    return {**has, "changes": found.changes(), "bound": bound, "error": why, "seed": found.seed}
 
 
 def run_repair(asked: Json) -> Json:

@@ -91,11 +91,8 @@ def improved(options: ImproveOptions, given: Given, roster: Program) -> int:
 
 def keep_run(given: Given, roster: Program, run: improve.Run, options: ImproveOptions) -> None:
     """Keeps the roster of a run. If the ward has another version by now, it is kept as a candidate."""
-    seeds = commands.seeds_of(options)
     how = "plan" if options.plan else "improve"
-    made = stored(
-        given, roster, run.solutions, f"{how}, after {run.saved}", seeds[0] if run.searches else None, run.searches or None
-    )
+    made = stored(given, roster, run.solutions, f"{how}, after {run.saved}", run.seed, run.searches or None)
     try:
         number = keep(given, made, f"{how}: {made.cost()}, {run.changes()}")
     except DeskError as why:
