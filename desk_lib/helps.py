@@ -31,11 +31,12 @@ IMPROVE = """
 
 After each round the file is replaced at once, so that Ctrl-C leaves the roster of the last whole round. At the end
 it has the very bytes of one run of 'roster improve'. With --polish it has those of one run of 'roster polish' with
-as many searches and that seed, or a cheaper roster. Such a run writes nothing before its end, nor on Ctrl-C; so
-slices of polish go on at the same time, from the roster in the file, and each that is cheaper is kept. The log has a
-line for each cheaper roster; it goes to standard error, and on a terminal it is one line that changes. If something
-else writes the file meanwhile, that stays, and the roster is kept in a file next to it. How many days change is no
-part of the penalty; it is reported at the end, and by 'costs --with'.
+as many searches and that seed, or a cheaper roster. With --seconds and without --polish such a run is made on each
+processor, with seeds that follow one another. While runs of polish go on, the best roster that they have found goes
+into the file, once a second at most; so Ctrl-C leaves that. The log has a line for each cheaper roster; it goes to
+standard error, and on a terminal it is one line that changes. If something else writes the file meanwhile, that stays,
+and the roster is kept in a file next to it. How many days change is no part of the penalty; it is reported at the end,
+and by 'costs --with'.
 
 If the roster in the file costs what the lower bound by --bound is, no roster that keeps the hard rules and the frozen
 days costs less. It is optimal, and the run ends: no further round is made, and runs of polish that go on are left.
@@ -56,10 +57,10 @@ looks for a roster with --keep from 100 down to 10, and without, and each is tri
 is taken back. The one with the fewest changed days is put into the file. All are listed with their changes and
 penalties; --candidate N puts another of them into the file, by the same searches.
 
-The file of --log ends with a line each for the time in seconds, for the searches of runs that ended, the lower bound
-and the seed if there are any, and for the version of roster. A roster that is there is replaced by --force alone, and
-so is a file of --log that is neither empty nor such a log. With a ward the roster becomes its working one at the end,
-as a new version, and --out is left out."""
+The file of --log ends with a line each for the time in seconds, for the searches of runs that ended, if their number
+was given, the lower bound and the seed if there are any, and for the version of roster. A roster that is there is
+replaced by --force alone, and so is a file of --log that is neither empty nor such a log. With a ward the roster
+becomes its working one at the end, as a new version, and --out is left out."""
 
 
 WHO = """

@@ -40,7 +40,7 @@ def say(event: str, **more: typing.Any) -> None:
 
 class Watched(improve.Progress):
     """The progress of a run, which is passed on: each better penalty, and each higher bound. A penalty is one that is kept if the run
-    is ended then; so what a whole run of `polish` has in its log before it is over is none."""
+    is ended then; so what a run of `polish` reports is none until it is in the file."""
 
     def __init__(self, log: str | None, bound_search: BoundSearch, is_quiet: bool = False, has_curve: bool = True):
         """`has_curve` says whether penalties are passed on."""
