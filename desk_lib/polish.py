@@ -187,7 +187,9 @@ class Polish:
     def take_last(self, job: Job, answer: Answer) -> None:
         """Takes the roster of a run that is over, which is that of the last line that reports one."""
         self.look_at(job)
-        if answer.end() and job.total not in [*job.reported][-1:]:
+        # (if it has said nothing, that is an error of its own)
+        answer.end()
+        if job.total not in [*job.reported][-1:]:
             raise DeskError("the program ended a run, and its last roster isn't in its file; --roster names the program roster", 3)
         self.run.searches += self.course.searches or 0
         if len(self.seeds) > 1 or self.is_open():
@@ -245,8 +247,7 @@ class Polish:
     def put(self, found: Found) -> None:
         if found.solutions != self.run.solutions:
             self.run.put(found.solutions, found.total, found.what)
-            self.run.seed = found.seed
-        self.word = found.word
+        self.run.seed, self.word = found.seed, found.word
 
     def show(self) -> None:
         kept = "" if self.least == self.run.total else f", in the file {self.run.total}"
