@@ -1,5 +1,11 @@
 -- How a command ends whose answer goes to a file.
-use Rattle.std.proofs.Common.{◌≡◌, ◌∙◌, ◌++◌, ℕ, None, Option, Some, [], ap, append-nil, inl, inr, refl, subst, sym}
+use Rattle.std.proofs.Common.{◌≡◌, ◌∙◌, ◌++◌, ◌||◌, ℕ, Bool, Contains, List, None, Option, Some, [], ◌∷◌, ap, append-nil, inl, inr, map, refl, string_bytes, subst, sym, true}
+use Rattle.std.proofs.lemmas.Cmp.{nat_list_eq_equiv}
+use Rattle.std.proofs.lemmas.Map.Views.{list_any-from_Contains}
+use Rattle.std.specs.List.{list_any}
+use Rattle.std.specs.Str.{bytes_eq}
+use Rattle.std.specs.declared.alloc.Global.{Global}
+use Rattle.std.specs.declared.string.String.{String}
 use Rattle.std.specs.Io.KnownBytes.{Appends, Keeps, append_known}
 use Rattle.std.specs.Prelude.{IfSome}
 use Rattle.roster_text.specs.Io.{Watched}
@@ -9,6 +15,14 @@ use Rattle.roster_answers.specs.Answer.{Logs}
 use Rattle.roster_reports.specs.Lines.{Text, memory_line}
 use Rattle.roster_cli.specs.Answer.{write_line}
 use Rattle.roster_cli.specs.Start.{EndsAt, input_line}
+
+list_any-map : {X Y : Type 0} (p : Y → Bool) (f : X → Y) (xs : List X) → list_any p (map f xs) ≡ list_any (λ x. p (f x)) xs
+list_any-map p f [] = refl
+list_any-map p f (x ∷ xs) = ap (λ b. p (f x) || b) (list_any-map p f xs)
+
+-- a path that is one of the names is found
+pub named_found : (path : Text) (files : List (String Global)) → Contains (map string_bytes files) path → list_any (λ file. bytes_eq path (string_bytes file)) files ≡ true
+named_found path files named = sym (list_any-map (bytes_eq path) string_bytes files) ∙ list_any-from_Contains nat_list_eq_equiv path (map string_bytes files) named
 
 -- what holds of a path that is named
 pub at_path : (P : Text → Type 0) (out : Option Text) (path : Text) → out ≡ Some path → P path → IfSome out P

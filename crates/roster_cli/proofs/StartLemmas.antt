@@ -139,6 +139,10 @@ pub some_out : (out : Option (String Global)) (path : Text) {A : Type 0} → opt
 some_out None path is h = absurd cc
 some_out (Some file) path is h = h
 
+-- what holds of the path that is named
+pub some_path : (P : Text → Type 0) (out : Option Text) (path : Text) → out ≡ Some path → IfSome out P → P path
+some_path P out path is h = subst (λ o. IfSome o P) is h
+
 -- a command that is done, whatever took its output
 module _ {Out Log : Type 0} (contents : Out → Option Text) (held : Out → Text) (logged : Log → Option Text) where
   sends_away : (command : Command) (given : Option Text) (output output_after : Out) (log log_after : Watched Log) → ReadsAndSends contents held logged command given output output_after log log_after → IsDoneAway logged command log log_after

@@ -1,7 +1,7 @@
 -- How the program begins and ends: the words that are read, the files that are opened, and what is left.
 -- `contents` is all that an output has taken, `held` the end of it that is still in the buffer, and `logged`
 -- what a log has.
-use Rattle.std.specs.Prelude.{◌≡◌, ◌≢◌, ℕ, ◌<◌, ◌⊎◌, ◌++◌, List, [], ◌∷◌, IfSome, None, Option, Ok, Err, Result, Some, codes, length, map, string_bytes, vec_len}
+use Rattle.std.specs.Prelude.{◌≡◌, ◌≢◌, ℕ, ◌<◌, ◌⊎◌, ◌++◌, Contains, List, [], ◌∷◌, IfSome, None, Option, Ok, Err, Result, Some, codes, length, map, string_bytes, vec_len}
 use Rattle.std.specs.Borrow.{Bor}
 use Rattle.std.specs.Fn.{Called, Mut}
 use Rattle.std.specs.declared.alloc.Global.{Global}
@@ -253,12 +253,24 @@ pub record FailsToPut {D Made Log : Type 0}
 abbrev pub input_line : Text → Text
 input_line path = path ++ codes ": is one of the inputs\n"
 
+-- it is reported that the answer would go to an input
+abbrev pub RefusesInput : {Log : Type 0} → (Log → Option Text) → Text → ℕ → Watched Log → Watched Log → Type 0
+RefusesInput logged path status log log_after = (status ≡ 2) × Logs logged log log_after (input_line path)
+
 -- nothing was read, since the file is one of the inputs, can't be written or lacks memory
 abbrev pub IsRefusedAt : {Log : Type 0} → (Log → Option Text) → Text → ℕ → Watched Log → Watched Log → Type 0
 IsRefusedAt logged path status log log_after =
-    ((status ≡ 2) × Logs logged log log_after (input_line path))
+    RefusesInput logged path status log log_after
     ⊎ ((status ≡ 3) × Logs logged log log_after (write_line (Some path)))
     ⊎ ((status ≡ 4) × Logs logged log log_after memory_line)
+
+-- a file that the request names as one of its inputs isn't answered into, and nothing is read
+abbrev pub SparesInputs : {F Log : Type 0} → (Log → Option Text) → Request → F → F → ℕ → Watched Log
+    → Watched Log → Type 0
+SparesInputs logged request opener opener_after status log log_after =
+    IfSome (out_of request)
+    (λ path. Contains (map string_bytes request.files.items) path
+    → (opener_after ≡ opener) × RefusesInput logged path status log log_after)
 
 -- how a command ends whose answer goes to the file of this path
 pub record EndsAt {D Made Log : Type 0}
@@ -318,11 +330,14 @@ pub record IsDoneAway {Log : Type 0} (logged : Log → Option Text) (command : C
   pub taken : IsTaken report (keep_of command) bytes bundle None
   pub in_log : Logged (record { contents = logged; before = log; after = log_after }) report.log
 
--- nothing went to the output; with status 0 the command is done
-pub record AnswersAway {Out Log : Type 0} (logged : Log → Option Text) (command : Command) (status : ℕ)
-    (output output_after : Out) (log log_after : Watched Log) : Type 0 where
+-- Nothing went to the output, and a path that names one of the inputs is refused. With status 0 the command
+-- is done.
+pub record AnswersAway {Out Log : Type 0} (logged : Log → Option Text) (request : Request) (path : Text)
+    (status : ℕ) (output output_after : Out) (log log_after : Watched Log) : Type 0 where
   pub same : output_after ≡ output
-  pub done : status ≡ 0 → IsDoneAway logged command log log_after
+  pub spared : Contains (map string_bytes request.files.items) path
+      → RefusesInput logged path status log log_after
+  pub done : status ≡ 0 → IsDoneAway logged request.command log log_after
 
 -- ---- the words of a request
 
@@ -336,7 +351,7 @@ pub record AnswersRequest {In File Out Log : Type 0} (remaining : In → Option 
   pub ends : GoesTo (out_of request)
       (EndsRequest (λ (files : List File). length files ≡ length request.files.items) IsUnopened
       remaining file_remaining contents held logged request input status output output_after log log_after)
-      (λ path. AnswersAway logged request.command status output output_after log log_after)
+      (λ path. AnswersAway logged request path status output output_after log log_after)
 
 -- the words are no request, and that was reported
 pub record RefusesWords {Out Log : Type 0} (contents : Out → Option Text) (held : Out → Text)

@@ -1,8 +1,10 @@
 //! An answer that goes to a file: all of it, or what stood there stays.
 
-ghost use Rattle.std.specs.Prelude.{◌≡◌, Some};
+ghost use Rattle.std.specs.Prelude.{◌≡◌, Contains, Some, map, string_bytes, true};
+ghost use Rattle.std.specs.List.{list_any};
+ghost use Rattle.std.specs.Str.{bytes_eq};
 ghost use Rattle.roster_cli.specs.Answer.{out_of};
-ghost use Rattle.roster_cli.specs.Start.{EndsInFile};
+ghost use Rattle.roster_cli.specs.Start.{EndsInFile, SparesInputs};
 ghost use Rattle.roster_out.specs.Places.{IsTemporaryName};
 
 use crate::aids::Aids;
@@ -36,6 +38,8 @@ pub(crate) fn answer_into<
 ) -> u8
     requires callable { F.IsAlwaysCallable opener.old }
     requires named { out_of request.now ≡ Some path.now }
+    ensures inputs { SparesInputs Log.contents request.now opener.old opener.new result log.old
+        log.new }
     ensures file { EndsInFile F.FnMut opener.old opener.new In.remaining File.remaining D.fresh
         D.File.contents D.Flushes D.Renames means.disk Log.contents request.now input result log.old
         log.new }
@@ -103,16 +107,20 @@ fn answer_at<
 }
 
 /// Whether the file of this path is one of those that are read, or standard input if none is.
-fn is_read<D: Disk>(disk: &D, files: &[String], path: &str) -> bool {
+fn is_read<D: Disk>(disk: &D, files: &[String], path: &str) -> bool
+    ensures named { Contains (map string_bytes files.now) path.now → result ≡ true }
+{
     if files.is_empty() {
         return disk.is_one(STANDARD_INPUT, path);
     }
-    for file in files {
-        if file.as_str() == path || disk.is_one(file.as_str(), path) {
-            return true;
-        }
-    }
-    false
+    is_named(files, path) || files.iter().any(|file| disk.is_one(file.as_str(), path))
+}
+
+/// Whether one of these files is named by the path itself.
+fn is_named(files: &[String], path: &str) -> bool
+    ensures { result ≡ list_any (λ file. bytes_eq path.now (string_bytes file)) files.now }
+{
+    files.iter().any(|file| path == file.as_str())
 }
 
 const STANDARD_INPUT: &str = "/dev/stdin";

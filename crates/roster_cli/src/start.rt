@@ -6,7 +6,7 @@ ghost use Rattle.std.specs.Io.Buffered.{writer_buffer, writer_contents};
 ghost use Rattle.roster_answers.specs.Answer.{Logs};
 ghost use Rattle.roster_cli.specs.Answer.{write_line};
 ghost use Rattle.roster_cli.specs.Saving.{ShowsSome};
-ghost use Rattle.roster_cli.specs.Start.{AnswersCommandLine, AnswersGiven, AnswersWords, AreUnread, AreWordsOf, EndsInFile, EndsOut, EndsOver, FailsToOpenAll, IsUnopened, OpensAll, OpensAndEnds, PrintsWords, SendsText};
+ghost use Rattle.roster_cli.specs.Start.{AnswersCommandLine, AnswersGiven, AnswersWords, AreUnread, AreWordsOf, EndsInFile, EndsOut, EndsOver, FailsToOpenAll, IsUnopened, OpensAll, OpensAndEnds, PrintsWords, SendsText, SparesInputs};
 
 use crate::aids::Aids;
 use crate::answer::run_saving;
@@ -172,6 +172,8 @@ fn answer_request<
 
     // With a file for the answer, nothing goes to the output.
     ensures apart { OnSome request.now.out (result.1 ≡ output) }
+    ensures inputs { SparesInputs Log.contents request.now opener.old opener.new result.0 log.old
+        log.new }
     ensures file { EndsInFile F.FnMut opener.old opener.new In.remaining File.remaining D.fresh
         D.File.contents D.Flushes D.Renames means.disk Log.contents request.now input result.0
         log.old log.new }
