@@ -1,4 +1,4 @@
-use Rattle.std.proofs.Common.{◌≡◌, Option, ap, subst}
+use Rattle.std.proofs.Common.{Option, ap, subst}
 use Rattle.std.specs.Io.KnownBytes.{Appends, Keeps}
 use Rattle.std.specs.Io.Buffered.{writer_buffer, writer_contents}
 use Rattle.roster_instance.specs.Meaning.{Meaning}
