@@ -21,6 +21,9 @@ from desk_lib.texts import DeskError, shown
 MOST_SEARCHES, MOST_SECONDS, SEEDS = 10_000_000, 86_400, 2**32
 # How often the files of runs are looked at, in seconds: the program replaces each once a second at most.
 EACH = 1.0
+# For how many seconds longer than its time a run may go on before it is ended: what its fade has found is there only once that is over,
+# and a machine that is at work for others can be late.
+LATE = 2.0
 # Whether runs also report how far their fades are, for which the program has to know `--trace`.
 WITH_TRACE = False
 # How the lines of a log begin that report a roster: the last one, and all.
@@ -260,5 +263,5 @@ def go_on(run: Run, course: Course) -> None:
     if not run.is_optimal() and (course.end is None or time.monotonic() < course.end):
         with tempfile.TemporaryDirectory(prefix="desk-polish-", ignore_cleanup_errors=True) as folder:
             polish = Polish(run, course, folder)
-            within_time(course.end, polish.work)
+            within_time(course.end + LATE if course.end is not None and polish.is_open() else course.end, polish.work)
         polish.finish()
